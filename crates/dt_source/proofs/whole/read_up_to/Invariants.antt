@@ -1,0 +1,17 @@
+use Rattle.std.proofs.Common.{◌≡◌, ◌≤◌, ◌+◌, ◌-◌, length}
+use Rattle.dt_source.specs.Known.{TakesFrom}
+use Rattle.dt_source.proofs.whole.read_up_to.Given as goal
+
+-- the bytes are what was taken, one more than the bound at most
+abbrev pub invariant-loop-chunk : goal.invariant-loop-chunk
+invariant-loop-chunk g l =
+    let left = g.S.Source.left in
+    record {
+      within : length l.bytes.items ≤ l.bound + 1;
+      taken : TakesFrom (left l.fn.source) l.bytes.items (left l.source);
+      counted : g.S.Source.faults l.fn.source ≤ g.S.Source.faults l.source;
+      whole : length l.chunk ≡ 4096;
+    }
+
+abbrev pub decreases-loop-chunk : goal.decreases-loop-chunk
+decreases-loop-chunk g l = l.bound + 1 - length l.bytes.items
