@@ -1,0 +1,15 @@
+pub mod Actions
+pub mod Image
+pub mod KeyLaws
+pub mod Keys
+pub mod Lawful
+pub mod LoadSources
+pub mod Memory
+pub mod ProbeFile
+pub mod Reasons
+pub mod Spelling
+pub mod Streams
+pub mod Tags
+pub mod Visible
+pub mod WorkedFile
+pub mod Writes

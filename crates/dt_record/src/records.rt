@@ -1,0 +1,106 @@
+ghost use Rattle.std.specs.Prelude.{◌≡◌};
+ghost use Rattle.dt_record.specs.Tags.{tag_number};
+
+/// One event of one hart, as the design under test reports it. This project's own format.
+#[derive(Clone, Copy, Debug, PartialEq, Eq)]
+pub struct Record {
+    /// The cycle in which the event happened.
+    pub stamp: u64,
+    pub hart: u8,
+    pub body: Body,
+}
+
+/// What retired instructions have in common.
+#[derive(Clone, Copy, Debug, PartialEq, Eq)]
+pub struct Retire {
+    pub pc: u64,
+    /// The instruction as fetched. A 16-bit instruction has its upper half zero.
+    pub bits: u32,
+    /// What the instruction gave: each kind of record says what that is.
+    pub value: u64,
+}
+
+/// What happened. Each retired instruction is one record: `Load` for loads, `Store` for stores,
+/// `Atomic` for LR, SC and AMO, and `Commit` for all others.
+#[derive(Clone, Copy, Debug, PartialEq, Eq)]
+pub enum Body {
+    /// `value` is what was written to rd, and 0 where no register was written or rd is x0.
+    Commit {
+        retire: Retire,
+    },
+    /// `bits` is 0 for an interrupt. For causes 1 and 12 it is 0 where the fault is on the first
+    /// halfword, and the first halfword where the fault is on the second.
+    Trap {
+        pc: u64,
+        bits: u32,
+        cause: u64,
+        tval: u64,
+    },
+    /// The registers x1 to x31, between two instructions.
+    Regs {
+        pc: u64,
+        x: [u64; 31],
+    },
+    /// The mode (0, 1 or 3) and, in order, mstatus, medeleg, mideleg, mie, mtvec, mcounteren,
+    /// mscratch, mepc, mcause, mtval, stvec, scounteren, sscratch, sepc, scause, stval and satp.
+    Csrs {
+        mode: u8,
+        v: [u64; 17],
+    },
+    /// `value` is the extended loaded value, whatever rd is. `at` is the cycle in which the load
+    /// was performed.
+    Load {
+        retire: Retire,
+        at: u64,
+        paddr: u64,
+    },
+    /// `value` has the low bytes that were stored, the rest zero.
+    Store {
+        pc: u64,
+        bits: u32,
+        paddr: u64,
+        value: u64,
+    },
+    /// `value` is the old value, extended (LR, AMO), or the result of SC, whatever rd is. `new` is
+    /// the value written, and 0 where nothing was written.
+    Atomic {
+        retire: Retire,
+        paddr: u64,
+        width: u8,
+        wrote: bool,
+        new: u64,
+    },
+    /// Stores leave the store buffer: the bytes of a 64-byte line whose mask bit is set (bit i for
+    /// byte i) are written. `count` is the number of stores that this drain takes.
+    Drain {
+        line: u64,
+        mask: u64,
+        count: u16,
+        bytes: [u8; 64],
+    },
+    /// A whole 64-byte line came into the hart's cache.
+    Refill {
+        line: u64,
+        bytes: [u8; 64],
+    },
+    /// The hart has reached this cycle.
+    Beat,
+}
+
+/// The tag of a record's kind, from 1 to 10, as probe files spell it.
+pub fn tag_of(body: &Body) -> u8
+    ensures { result ≡ tag_number body.now }
+{
+    match body {
+        Body::Commit { .. } => 1,
+        Body::Trap { .. } => 2,
+        Body::Regs { .. } => 3,
+        Body::Csrs { .. } => 4,
+        Body::Load { .. } => 5,
+        Body::Store { .. } => 6,
+        Body::Atomic { .. } => 7,
+        Body::Drain { .. } => 8,
+        Body::Refill { .. } => 9,
+        Body::Beat => 10,
+    }
+}

@@ -1,0 +1,48 @@
+ghost use Rattle.std.specs.Prelude.{◌≡◌, ℕ, ◌≤◌, ◌↔◌, List, Option, IsTrue, IsSome, IsNone};
+ghost use Rattle.dt_record.specs.declared.streams.Next.{Next};
+ghost use Rattle.dt_record.specs.Streams.{Progress, Continues, TakesAnswer, Rose};
+
+use crate::records::Record;
+use crate::writes::What;
+
+/// One answer of a stream of probe records. A stream answers a `Header`, then an `Event` for each
+/// record, then `End`; or it stops with one of the others in place of any of these.
+#[derive(Clone, Copy, Debug, PartialEq, Eq)]
+pub enum Next {
+    /// The number of harts, from 1 to 8, and whether satp may hold the mode of Sv48.
+    Header { harts: u8, wide: bool },
+    /// The next record, in the order of the file.
+    Event(Record),
+    /// All records have come: so many.
+    End { count: u64 },
+    /// The bytes are no probe file: the offset of the first header field or record that is wrong.
+    Malformed { offset: u64 },
+    /// There are too many records or writes: the number, from 1, of the first too many.
+    Limit { what: What, number: u64 },
+    /// The source of the records failed.
+    ReadFault,
+    OutOfMemory,
+}
+
+/// A stream of probe records, as of a file or of a running device.
+pub trait Probes {
+    /// What the answers so far have told.
+    ghost progress: { Self → Progress };
+
+    /// The answers that are left, where the stream tells them.
+    ghost left: { Self → Option (List Next) };
+
+    /// How often the source has failed.
+    ghost faults: { Self → ℕ };
+
+    fn is_over(&self) -> bool
+        ensures { IsTrue result ↔ IsSome (progress self.now).ended };
+
+    /// The next answer.
+    fn next(&mut self) -> Next
+        requires { IsNone (progress self.old).ended }
+        ensures step { Continues (progress self.old) result (progress self.new) }
+        ensures told { TakesAnswer (left self.old) result (left self.new) }
+        ensures rising { faults self.old ≤ faults self.new }
+        ensures fault { result ≡ Next.ReadFault → Rose (faults self.old) (faults self.new) };
+}
