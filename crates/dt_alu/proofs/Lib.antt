@@ -1,0 +1,4 @@
+pub mod WordLemmas
+pub mod AluLemmas
+pub mod ExtendLemmas
+pub mod Laws
