@@ -1,0 +1,3 @@
+mod DecodedLemmas
+mod MaskLemmas
+mod RowLemmas
