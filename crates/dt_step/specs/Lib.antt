@@ -1,0 +1,4 @@
+pub mod State
+pub mod Causes
+pub mod Plans
+pub mod Steps
