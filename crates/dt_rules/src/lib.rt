@@ -1,0 +1,13 @@
+//! The tests that settle a departure from the reference: interrupts, tval, counters, pending bits
+//! and device reads. Each is one question with one answer; the letters that reports print for them
+//! and the reasons of a refusal are those of dt_record.
+#![tactic(auto)]
+
+mod adopted;
+#[cfg(test)]
+mod tests;
+mod traps;
+
+pub use adopted::{counter, device, pending};
+pub use dt_record::{Letters, Reason};
+pub use traps::{interrupt, tval};
