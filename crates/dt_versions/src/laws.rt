@@ -1,0 +1,17 @@
+//! Laws of the definitions, for the crates above. The functions do nothing.
+ghost use Rattle.dt_versions.specs.Laws.{VisibleIsInterval, SourcesRise, LaterWritesDoNotCount};
+
+/// The visible moments of a record lie between two ends, and there is always one.
+pub fn visible_is_interval()
+    ensures { VisibleIsInterval }
+{}
+
+/// The source of a byte at a moment never falls as the moment rises.
+pub fn sources_rise()
+    ensures { SourcesRise }
+{}
+
+/// Writes of later cycles than a record's change nothing of what it sees or reads.
+pub fn later_writes_do_not_count()
+    ensures { LaterWritesDoNotCount }
+{}
