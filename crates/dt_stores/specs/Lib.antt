@@ -1,0 +1,6 @@
+pub mod Draining
+pub mod Kept
+pub mod Oldest
+pub mod Places
+pub mod Plans
+pub mod Standing

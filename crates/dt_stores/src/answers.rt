@@ -1,0 +1,37 @@
+use dt_record::Key;
+
+/// What a drain of a line did or would do.
+#[derive(Clone, Copy, Debug, PartialEq, Eq)]
+pub enum DrainAnswer {
+    /// The oldest waiting stores of the line are written: the bytes whose mask bit is set (bit i
+    /// for byte i). The others are 0.
+    Took { mask: u64, bytes: [u8; 64] },
+    /// Fewer stores of the line wait than the drain counts: so many.
+    Few { held: u32 },
+    /// A store on another line, before a write-before-write fence, has to drain first. This is the
+    /// `seq` of the oldest such.
+    Barred { seq: u32 },
+    OutOfMemory,
+}
+
+/// A byte that a load has from a store of its own hart.
+#[derive(Clone, Copy, Debug, PartialEq, Eq)]
+pub struct Forward {
+    /// The store's number among the records of the hart.
+    pub seq: u32,
+    pub byte: u8,
+    /// The key of the drain that has taken the store, where one has.
+    pub drained: Option<Key>,
+}
+
+/// Which stores are asked about.
+#[derive(Clone, Copy, Debug, PartialEq, Eq)]
+pub enum Which {
+    All,
+    /// Those on the line with this address.
+    Line(u64),
+    /// Those before the last write-before-read fence.
+    BeforeWr,
+    /// Those before the last write-before-write fence.
+    BeforeWw,
+}

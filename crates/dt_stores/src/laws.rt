@@ -1,0 +1,16 @@
+ghost use Rattle.std.specs.Prelude.{ℕ, Bool, [], ◌∷◌};
+ghost use Rattle.dt_record.specs.declared.keys.Key.{Key};
+ghost use Rattle.dt_record.specs.declared.accesses.LoadAsk.{LoadAsk};
+ghost use Rattle.dt_record.specs.Actions.{Loaded, Atomic};
+ghost use Rattle.dt_stores.specs.Kept.{Kept};
+ghost use Rattle.dt_stores.specs.Standing.{GainsAction};
+
+/// A law: what stands for some actions stands for them and a load.
+pub fn loads_keep_stores()
+    ensures { (kept : Kept) (ask : LoadAsk) → GainsAction kept kept (Loaded ask) }
+{}
+
+/// A law: what stands for some actions stands for them and an atomic.
+pub fn atomics_keep_stores()
+    ensures { (kept : Kept) (key : Key) (addr width : ℕ) (reads acquires : Bool) → GainsAction kept kept (Atomic key addr width reads acquires) }
+{}
