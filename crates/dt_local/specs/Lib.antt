@@ -1,0 +1,2 @@
+pub mod LocalMemory
+pub mod Slots
