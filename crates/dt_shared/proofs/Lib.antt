@@ -1,0 +1,10 @@
+pub mod Totals
+pub mod Histories
+pub mod Lines
+pub mod Accounts
+pub mod Steps
+pub mod Ends
+pub mod Told
+pub mod Knowing
+pub mod Gathering
+pub mod Progresses

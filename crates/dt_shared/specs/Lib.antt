@@ -1,0 +1,11 @@
+pub mod Entries
+pub mod Views
+pub mod Moments
+pub mod Steps
+pub mod Closing
+pub mod Turns
+pub mod Passes
+pub mod Records
+pub mod Gathers
+pub mod Marks
+pub mod Replicas
