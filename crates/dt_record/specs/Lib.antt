@@ -1,4 +1,5 @@
 pub mod Actions
+pub mod Answers
 pub mod Image
 pub mod KeyLaws
 pub mod Keys

@@ -1,7 +1,7 @@
-use Rattle.std.specs.Prelude.{ℕ, ◌≡◌, List, [], ◌∷◌, ◌++◌, false, length, refl}
+use Rattle.std.specs.Prelude.{◌≡◌, [], ◌∷◌, ◌++◌, false, refl}
 use Rattle.dt_record.specs.declared.records.Record.{Record}
 use Rattle.dt_record.specs.declared.records.Body.TheVariants.{Commit}
-use Rattle.dt_record.specs.Spelling.{Version, One, Two, half, word, double, varint, wide_bytes, short_bytes, end_bytes}
+use Rattle.dt_record.specs.Spelling.{One, Two, half, word, double, varint, wide_bytes, short_bytes, end_bytes}
 use Rattle.dt_record.specs.ProbeFile.{header_bytes, records_bytes, no_stamps}
 
 -- One file of one record in both versions, byte by byte, as docs/PROBE-FORMAT.md shows it: hart 0
