@@ -1,4 +1,4 @@
-ghost use Rattle.std.specs.Prelude.{◌≡◌, ◌≢◌, ◌≤◌, ℕ, [], IfOk, IfSome, OnOk, OnErr};
+ghost use Rattle.std.specs.Prelude.{◌≡◌, ◌≢◌, ◌≤◌, ℕ, [], IfOk, IfSome, OnOk, OnErr, length};
 ghost use Rattle.dt_source.specs.Faults.{Rose};
 ghost use Rattle.dt_source.specs.Known.{TakesFrom, TakesSome};
 ghost use Rattle.dt_image.specs.Loading.{loaded};
@@ -36,6 +36,7 @@ pub fn load<S: Source>(alloc: Global, source: &mut S) -> Result<Image, ImageRefu
     // The image is all that was left, and nothing is left then.
     ensures takes { IfOk result (λ image. TakesFrom (S.left source.old) image (S.left source.new)) }
     ensures end { OnOk result (IfSome (S.left source.new) (λ rest. rest ≡ [])) }
+    ensures within { IfOk result (λ image. length image ≤ 16777216) }
 
     // Whatever failed: another answer than those of a fault or of want of memory is that of the
     // bytes that were left.
