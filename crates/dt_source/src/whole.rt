@@ -85,6 +85,8 @@ pub fn read_up_to<S: Source>(
         → TakesSome (S.left source.old) (S.left source.new) (bound + 1) }
     ensures fault_only { result ≡ Err ReadRefusal.ReadFault
         → Rose (S.faults source.old) (S.faults source.new) }
+    ensures fault_takes { result ≡ Err ReadRefusal.ReadFault
+        → ((n : ℕ) × (n ≤ bound) × TakesSome (S.left source.old) (S.left source.new) n) }
     ensures refused_takes { OnErr result
         ((n : ℕ) × (n ≤ bound + 1) × TakesSome (S.left source.old) (S.left source.new) n) }
     ensures never_falls { S.faults source.old ≤ S.faults source.new }
