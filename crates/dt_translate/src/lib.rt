@@ -1,0 +1,9 @@
+//! Translation and fetch over a span of moments: which outcomes and which halfwords some moment
+//! gives, and the newest moment that does.
+#![tactic(auto)]
+
+mod outcomes;
+mod searches;
+mod tables;
+
+pub use searches::{allowed, fetch};
