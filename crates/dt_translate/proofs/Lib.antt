@@ -1,2 +1,5 @@
 mod Choices
+mod Histories
+mod Moments
+mod Newests
 mod Pages

@@ -53,4 +53,5 @@ reached-leads AccessFault even = tt
 
 -- a fetch from an even address leads to two bytes of RAM
 pub LeadsToHalf-outcome_at : (image : List ℕ) (writes : List Write) (k : ℕ) (a : WalkArgs) → a.va % 2 ≡ 0 → LeadsToHalf (outcome_at image writes k a true)
+unfolding outcome_at
 LeadsToHalf-outcome_at image writes k a even = reached-leads (walk_of (entry_at image writes k) a) (walk_of-even (entry_at image writes k) a even)

@@ -1,3 +1,4 @@
 pub mod Fetches
+pub mod Laws
 pub mod Newest
 pub mod Outcomes

@@ -2,8 +2,11 @@
 //! gives, and the newest moment that does.
 #![tactic(auto)]
 
+mod laws;
 mod outcomes;
 mod searches;
 mod tables;
 
+pub use laws::first_writes_decide;
+pub use outcomes::outcome;
 pub use searches::{allowed, fetch};

@@ -28,6 +28,7 @@ fn reached(ram_only: bool, answer: WalkAnswer) -> WalkAnswer
     }
 }
 
+#[tactic(auto, unfolding(crate::specs::Outcomes::outcome_at))]
 /// The outcome of a translation after the first k writes.
 pub fn outcome(moments: &Moments, k: u32, a: WalkArgs, ram_only: bool) -> WalkAnswer
     requires within { k ≤ length moments.now.writes }
@@ -49,6 +50,7 @@ pub fn fetch_outcome(moments: &Moments, k: u32, a: WalkArgs) -> WalkAnswer
     outcome(moments, k, a, true)
 }
 
+#[tactic(auto, unfolding(crate::specs::Outcomes::half_at))]
 /// The halfword after the first k writes.
 pub fn half(moments: &Moments, k: u32, addr: u64) -> u16
     requires within { k ≤ length moments.now.writes }

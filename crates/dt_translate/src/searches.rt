@@ -1,8 +1,8 @@
-ghost use Rattle.std.specs.Prelude.{◌≡◌, ◌≤◌, ◌<◌, ◌+◌, ◌%◌, ℕ, length, IfSome, IfNone};
+ghost use Rattle.std.specs.Prelude.{◌≡◌, ◌≤◌, ◌<◌, ◌+◌, ◌%◌, ◌==◌, length, IsTrue, IfSome, IfNone};
 ghost use Rattle.dt_walk.specs.Walk.{CanWalk};
-ghost use Rattle.dt_translate.specs.Fetches.{IsChosen, IsNeverFetched, LeadsToHalf, StandsAt};
+ghost use Rattle.dt_translate.specs.Fetches.{IsChosen, IsNeverFetched, LeadsToHalf, fetch_moments, stands_at};
 ghost use Rattle.dt_translate.specs.Newest.{HasNone, IsNewest};
-ghost use Rattle.dt_translate.specs.Outcomes.{half_at, outcome_at};
+ghost use Rattle.dt_translate.specs.Outcomes.{allowed_moment, half_at, outcome_at};
 
 use crate::outcomes::{fetch_outcome, half, outcome};
 use dt_versions::{Moments, Span};
@@ -21,6 +21,7 @@ pub fn allowed(
 ) -> Option<u32>
     requires within { window.last ≤ length m.now.writes }
     requires args { CanWalk a }
+    ensures value { result ≡ allowed_moment m.now.image m.now.writes window a ram_only wanted }
     ensures found { IfSome result (λ k. IsNewest (λ j. outcome_at m.now.image m.now.writes j a ram_only ≡ wanted) window k) }
     ensures none { IfNone result (HasNone (λ j. outcome_at m.now.image m.now.writes j a ram_only ≡ wanted) window) }
 {
@@ -37,8 +38,8 @@ fn newest_half(m: &Moments, span: Span, addr: u64, wanted: u16) -> Option<u32>
     requires within { span.last ≤ length m.now.writes }
     requires in_ram { 0x8000_0000 ≤ addr }
     requires before_end { addr + 1 < 0x8400_0000 }
-    ensures found { IfSome result (λ k. IsNewest (λ j. half_at m.now.image m.now.writes j addr ≡ wanted) span k) }
-    ensures none { IfNone result (HasNone (λ j. half_at m.now.image m.now.writes j addr ≡ wanted) span) }
+    ensures found { IfSome result (λ k. IsNewest (λ j. IsTrue (half_at m.now.image m.now.writes j addr == wanted)) span k) }
+    ensures none { IfNone result (HasNone (λ j. IsTrue (half_at m.now.image m.now.writes j addr == wanted)) span) }
 {
     for k in (span.first..=span.last).rev() {
         if half(m, k, addr) == wanted {
@@ -59,9 +60,9 @@ fn newest_standing(
 ) -> Option<u32>
     requires within { span.last ≤ length m.now.writes }
     requires leads { LeadsToHalf translated }
-    requires in_vain { HasNone (λ j. StandsAt m.now.image m.now.writes wanted j in_vain) span }
-    ensures found { IfSome result (λ k. IsNewest (λ j. StandsAt m.now.image m.now.writes wanted j translated) span k) }
-    ensures none { IfNone result (HasNone (λ j. StandsAt m.now.image m.now.writes wanted j translated) span) }
+    requires in_vain { HasNone (λ j. IsTrue (stands_at m.now.image m.now.writes j wanted in_vain)) span }
+    ensures found { IfSome result (λ k. IsNewest (λ j. IsTrue (stands_at m.now.image m.now.writes j wanted translated)) span k) }
+    ensures none { IfNone result (HasNone (λ j. IsTrue (stands_at m.now.image m.now.writes j wanted translated)) span) }
 {
     if translated == in_vain {
         return None;
@@ -81,6 +82,7 @@ pub fn fetch(m: &Moments, window: Span, since: Span, a: WalkArgs, half: u16) -> 
     requires since_within { since.last ≤ length m.now.writes }
     requires args { CanWalk a }
     requires even { a.va % 2 ≡ 0 }
+    ensures value { result ≡ fetch_moments m.now.image m.now.writes window since a half }
     ensures found { IfSome result (λ pair. IsChosen m.now.image m.now.writes window since a half pair.0 pair.1) }
     ensures none { IfNone result (IsNeverFetched m.now.image m.now.writes window since a half) }
 {

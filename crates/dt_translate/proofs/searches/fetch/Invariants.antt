@@ -1,5 +1,5 @@
-use Rattle.std.proofs.Common.{ℕ, ◌<◌}
-use Rattle.dt_translate.specs.Fetches.{IsFetched, StandsAt}
+use Rattle.std.proofs.Common.{ℕ, ◌<◌, IsTrue}
+use Rattle.dt_translate.specs.Fetches.{IsFetched, stands_at}
 use Rattle.dt_translate.specs.Newest.{IsWithin}
 use Rattle.dt_translate.proofs.searches.fetch.Given as goal
 
@@ -8,5 +8,5 @@ use Rattle.dt_translate.proofs.searches.fetch.Given as goal
 abbrev pub invariant-loop-k : goal.invariant-loop-k
 invariant-loop-k l = record {
   tried : (k1 k2 : ℕ) → IsWithin l.fn.window k1 → l.k < k1 → IsWithin l.since k2 → ¬ (IsFetched l.m.image l.m.writes l.a l.half k1 k2);
-  in_vain : (k2 : ℕ) → IsWithin l.since k2 → ¬ (StandsAt l.m.image l.m.writes l.half k2 l.in_vain);
+  in_vain : (k2 : ℕ) → IsWithin l.since k2 → ¬ (IsTrue (stands_at l.m.image l.m.writes k2 l.half l.in_vain));
 }
