@@ -71,6 +71,6 @@ module _ (image : List ℕ) (writes : List Write) (window : Span) (a : WalkArgs)
     unfolding fetch_moments has_source
     fetch_moments-none never =
         let translated : newest has_source window ≡ None = newest-none has_source window (λ j inside passes.
-            let none = sourceless j (λ source. never j source.0 inside source.1 source.2) in
-            cc) in
+        let none = sourceless j (λ source. never j source.0 inside source.1 source.2) in
+        cc) in
         sym (ap (option_and_then (λ k. option_map (λ j. (k, j)) (held_moment image writes since a half k))) translated)

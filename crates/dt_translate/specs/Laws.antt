@@ -1,10 +1,11 @@
-use Rattle.std.specs.Prelude.{ℕ, ◌≡◌, ◌≤◌, Bool, List, take}
+use Rattle.std.specs.Prelude.{ℕ, ◌≡◌, ◌≤◌, Bool, false, List, take}
 use Rattle.dt_record.specs.declared.writes.Write.{Write}
 use Rattle.dt_versions.specs.declared.moments.Span.{Span}
 use Rattle.dt_walk.specs.declared.arguments.WalkArgs.{WalkArgs}
 use Rattle.dt_walk.specs.declared.arguments.WalkAnswer.{WalkAnswer}
+use Rattle.dt_walk.specs.declared.arguments.WalkAnswer.TheVariants.{Page}
 use Rattle.dt_translate.specs.Fetches.{fetch_moments}
-use Rattle.dt_translate.specs.Outcomes.{allowed_moment, half_at, outcome_at}
+use Rattle.dt_translate.specs.Outcomes.{allowed_moment, half_at, outcome_at, reached}
 
 -- Laws of translation over time (this project's own).
 
@@ -27,3 +28,8 @@ abbrev pub SameWindows : Type 0
 SameWindows = (image : List ℕ) (ws vs : List Write) (window since : Span) (a : WalkArgs)
     → take window.last ws ≡ take window.last vs → take since.last ws ≡ take since.last vs
     → AreAlikeWithin image ws vs window since a
+
+-- where addresses are not translated, the outcome is the address itself at each moment
+abbrev pub StaysUntranslated : Type 0
+StaysUntranslated = (image : List ℕ) (writes : List Write) (k : ℕ) (a : WalkArgs) (ram_only : Bool) → a.on ≡ false
+    → outcome_at image writes k a ram_only ≡ reached ram_only (Page a.va)

@@ -2,3 +2,4 @@ pub mod Fetches
 pub mod Laws
 pub mod Newest
 pub mod Outcomes
+pub mod Worked

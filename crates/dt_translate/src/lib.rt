@@ -6,7 +6,9 @@ mod laws;
 mod outcomes;
 mod searches;
 mod tables;
+#[cfg(test)]
+mod tests;
 
-pub use laws::first_writes_decide;
+pub use laws::{first_writes_decide, untranslated_stays};
 pub use outcomes::outcome;
 pub use searches::{allowed, fetch};

@@ -12,11 +12,8 @@ use dt_walk::{WalkAnswer, WalkArgs, walk};
 fn is_reachable(ram_only: bool, addr: u64) -> bool
     ensures { result ≡ is_reachable ram_only addr }
 {
-    if ram_only {
-        RAM_START <= addr && addr < RAM_END
-    } else {
-        addr < RAM_END
-    }
+    let is_in_ram = RAM_START <= addr && addr < RAM_END;
+    is_in_ram || (!ram_only && addr < RAM_START)
 }
 
 fn reached(ram_only: bool, answer: WalkAnswer) -> WalkAnswer

@@ -87,10 +87,10 @@ pub fn fetch(m: &Moments, window: Span, since: Span, a: WalkArgs, half: u16) -> 
     ensures none { IfNone result (IsNeverFetched m.now.image m.now.writes window since a half) }
 {
     let mut in_vain = WalkAnswer::AccessFault;
-    for k in (window.first..=window.last).rev() {
-        let translated = fetch_outcome(m, k, a);
+    for moment in (window.first..=window.last).rev() {
+        let translated = fetch_outcome(m, moment, a);
         if let Some(held) = newest_standing(m, since, half, translated, in_vain) {
-            return Some((k, held));
+            return Some((moment, held));
         }
         in_vain = translated;
     }
