@@ -25,8 +25,10 @@ fn reached(ram_only: bool, answer: WalkAnswer) -> WalkAnswer
     }
 }
 
+/// The outcome of a translation after the first k writes: the walk's answer, with an access fault
+/// in place of a page address that is neither in RAM nor a device's or, with `ram_only`, not in RAM.
+/// `ram_only` is for fetches, LR, SC and atomics.
 #[tactic(auto, unfolding(crate::specs::Outcomes::outcome_at))]
-/// The outcome of a translation after the first k writes.
 pub fn outcome(moments: &Moments, k: u32, a: WalkArgs, ram_only: bool) -> WalkAnswer
     requires within { k ≤ length moments.now.writes }
     requires args { CanWalk a }
@@ -47,8 +49,8 @@ pub fn fetch_outcome(moments: &Moments, k: u32, a: WalkArgs) -> WalkAnswer
     outcome(moments, k, a, true)
 }
 
-#[tactic(auto, unfolding(crate::specs::Outcomes::half_at))]
 /// The halfword after the first k writes.
+#[tactic(auto, unfolding(crate::specs::Outcomes::half_at))]
 pub fn half(moments: &Moments, k: u32, addr: u64) -> u16
     requires within { k ≤ length moments.now.writes }
     requires in_ram { 0x8000_0000 ≤ addr }

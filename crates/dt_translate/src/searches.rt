@@ -8,10 +8,8 @@ use crate::outcomes::{fetch_outcome, half, outcome};
 use dt_versions::{Moments, Span};
 use dt_walk::{WalkAnswer, WalkArgs};
 
-/// The newest moment of the window whose outcome is the wanted one: the walk's answer, with an
-/// access fault in place of a page that is neither RAM nor a device or, with `ram_only`, not RAM.
-/// `ram_only` is for fetches, LR, SC and atomics. None where no moment gives it, as in a window
-/// whose first moment is above its last.
+/// The newest moment of the window whose outcome is the wanted one. None where no moment gives it,
+/// as in a window whose first moment is above its last.
 pub fn allowed(
     m: &Moments,
     window: Span,

@@ -23,8 +23,8 @@ impl PteReader for Tables<'_> {
     }
 }
 
-#[tactic(auto, unfolding(crate::specs::Outcomes::entry_at, crate::specs::Outcomes::half_at))]
 /// The page-table entry of 64 bits after the first k writes.
+#[tactic(auto, unfolding(crate::specs::Outcomes::entry_at, crate::specs::Outcomes::half_at))]
 fn entry(moments: &Moments, k: u32, addr: u64) -> u64
     requires within { k ≤ length moments.now.writes }
     requires aligned { addr % 8 ≡ 0 }
