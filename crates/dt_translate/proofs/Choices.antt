@@ -1,11 +1,11 @@
 -- What one moment of the window says of the chosen pair, and of there being none.
-use Rattle.std.proofs.Common.{◌≡◌, ℕ, ◌<◌, ◌≤◌, ◌-◌, List, sym, subst, arith, true, IsTrue, inl, inr}
+use Rattle.std.proofs.Common.{◌≡◌, ℕ, ◌<◌, ◌≤◌, List, sym, subst, arith, true, IsTrue, inl, inr}
 use Rattle.std.proofs.lemmas.Bool.{cases_lt}
 use Rattle.dt_record.specs.declared.writes.Write.{Write}
 use Rattle.dt_versions.specs.declared.moments.Span.{Span}
 use Rattle.dt_walk.specs.declared.arguments.WalkArgs.{WalkArgs}
 use Rattle.dt_walk.specs.declared.arguments.WalkAnswer.{WalkAnswer}
-use Rattle.dt_translate.specs.Fetches.{HasSource, IsChosen, IsFetched, IsNeverFetched, stands_at}
+use Rattle.dt_translate.specs.Fetches.{IsChosen, IsFetched, stands_at}
 use Rattle.dt_translate.specs.Newest.{HasNone, IsNewest, IsWithin}
 use Rattle.dt_translate.specs.Outcomes.{outcome_at}
 

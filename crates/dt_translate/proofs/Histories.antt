@@ -1,5 +1,5 @@
 -- Lists of writes that begin alike.
-use Rattle.std.proofs.Common.{◌≡◌, ℕ, ◌+◌, ◌*◌, ◌^◌, ◌%◌, ◌≤◌, ◌==◌, Bool, true, List, Option, Some, None, take, reverse, option_map, option_and_then, is_some, refl, sym, ap, ◌∙◌, arith}
+use Rattle.std.proofs.Common.{◌≡◌, ℕ, ◌+◌, ◌*◌, ◌^◌, ◌%◌, ◌≤◌, ◌==◌, Bool, true, List, Option, Some, None, take, reverse, option_map, option_and_then, is_some, refl, sym, ap, ◌∙◌}
 use Rattle.std.specs.Prelude.{slice_index, find}
 use Rattle.std.specs.Option.{option_map_or}
 use Rattle.std.proofs.lemmas.List.{take-take}
@@ -11,8 +11,8 @@ use Rattle.dt_walk.specs.declared.arguments.WalkArgs.{WalkArgs}
 use Rattle.dt_walk.specs.declared.arguments.WalkAnswer.{WalkAnswer}
 use Rattle.dt_walk.specs.declared.arguments.WalkAnswer.TheVariants.{Page, PageFault, AccessFault}
 use Rattle.dt_walk.specs.Walk.{walk_of}
-use Rattle.dt_translate.specs.Fetches.{fetch_moments, held_moment, is_fetched, stands_at}
-use Rattle.dt_translate.specs.Laws.{AreAlikeAt, AreAlikeWithin, SameFirstWrites, SameWindows}
+use Rattle.dt_translate.specs.Fetches.{fetch_moments, held_moment, stands_at}
+use Rattle.dt_translate.specs.Laws.{AreAlikeAt, SameFirstWrites, SameWindows}
 use Rattle.dt_translate.specs.Newest.{IsWithin, newest}
 use Rattle.dt_translate.specs.Outcomes.{allowed_moment, entry_at, half_at, is_answer, outcome_at, reached}
 use Rattle.dt_translate.proofs.Newests.{newest-same, newest-within}

@@ -1,13 +1,13 @@
 -- The chosen moments, as values and as facts.
-use Rattle.std.proofs.Common.{◌≡◌, ℕ, ◌==◌, Bool, true, false, IsTrue, IsSome, List, Option, Some, None, option_map, option_and_then, is_some, refl, sym, ap, ◌∙◌, subst, rules, arith}
+use Rattle.std.proofs.Common.{◌≡◌, ℕ, Bool, true, false, IsTrue, List, Some, None, option_map, option_and_then, is_some, refl, sym, ap, ◌∙◌, subst, arith}
 use Rattle.std.proofs.lemmas.Bool.Decides.{nat_tests}
 use Rattle.dt_record.specs.declared.writes.Write.{Write}
 use Rattle.dt_versions.specs.declared.moments.Span.{Span}
 use Rattle.dt_walk.specs.declared.arguments.WalkArgs.{WalkArgs}
 use Rattle.dt_walk.specs.declared.arguments.WalkAnswer.{WalkAnswer}
 use Rattle.dt_walk.specs.declared.arguments.WalkAnswer.TheVariants.{Page, PageFault, AccessFault}
-use Rattle.dt_translate.specs.Fetches.{HasSource, IsChosen, IsFetched, IsNeverFetched, fetch_moments, held_moment, is_fetched}
-use Rattle.dt_translate.specs.Newest.{HasNone, IsNewest, IsWithin, newest}
+use Rattle.dt_translate.specs.Fetches.{HasSource, IsChosen, IsNeverFetched, fetch_moments, held_moment, is_fetched}
+use Rattle.dt_translate.specs.Newest.{HasNone, IsNewest, newest}
 use Rattle.dt_translate.specs.Outcomes.{allowed_moment, is_answer, outcome_at}
 use Rattle.dt_translate.proofs.Newests.{newest-some, newest-none}
 

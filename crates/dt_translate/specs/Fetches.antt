@@ -1,4 +1,4 @@
-use Rattle.std.specs.Prelude.{ℕ, ◌≡◌, ◌≤◌, ◌<◌, ◌+◌, ◌==◌, ⊤, Bool, true, false, IsTrue, List, Option, option_map, option_and_then, is_some}
+use Rattle.std.specs.Prelude.{ℕ, ◌≤◌, ◌<◌, ◌+◌, ◌==◌, ⊤, Bool, true, false, IsTrue, List, Option, option_map, option_and_then, is_some}
 use Rattle.dt_record.specs.declared.writes.Write.{Write}
 use Rattle.dt_versions.specs.declared.moments.Span.{Span}
 use Rattle.dt_walk.specs.declared.arguments.WalkArgs.{WalkArgs}

@@ -1,4 +1,4 @@
-ghost use Rattle.std.specs.Prelude.{◌≤◌, length};
+ghost use Rattle.std.specs.Prelude.{◌≡◌, ◌≤◌, length};
 ghost use Rattle.dt_walk.specs.Walk.{CanWalk};
 
 use crate::{allowed, fetch, outcome};
@@ -54,7 +54,8 @@ fn span(rt: &impl Abort, moments: &Moments, ends: (u32, u32)) -> Span
 
 /// An access by S through three levels of tables from 80002000 on, or with no translation.
 fn args(va: u64, on: bool, access: Access) -> WalkArgs
-    ensures { CanWalk result }
+    ensures can_walk { CanWalk result }
+    ensures va { result.va ≡ va }
 {
     WalkArgs {
         va,

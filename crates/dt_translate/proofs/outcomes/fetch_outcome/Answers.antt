@@ -1,5 +1,3 @@
-use Rattle.std.proofs.Common.{subst, sym}
-use Rattle.dt_translate.specs.Fetches.{LeadsToHalf}
 use Rattle.dt_translate.proofs.Pages.{LeadsToHalf-outcome_at}
 use Rattle.dt_translate.proofs.outcomes.fetch_outcome.Goals as goal
 

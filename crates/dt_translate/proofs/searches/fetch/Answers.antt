@@ -1,4 +1,4 @@
-use Rattle.std.proofs.Common.{◌≤◌, arith}
+use Rattle.std.proofs.Common.{arith}
 use Rattle.dt_translate.specs.Fetches.{IsChosen, IsNeverFetched}
 use Rattle.dt_translate.proofs.Choices.{IsChosen-newest, IsTriedAbove-next}
 use Rattle.dt_translate.proofs.Moments.{fetch_moments-some, fetch_moments-none}

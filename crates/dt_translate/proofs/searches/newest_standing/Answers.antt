@@ -1,5 +1,4 @@
-use Rattle.std.proofs.Common.{◌≡◌, rules, subst, sym}
-use Rattle.dt_translate.specs.Fetches.{stands_at}
+use Rattle.std.proofs.Common.{◌≡◌, rules}
 use Rattle.dt_translate.proofs.searches.newest_standing.Goals as goal
 
 pub returns-then-eq-clause-none : goal.returns-then-eq-clause-none
