@@ -1,0 +1,16 @@
+//! The bytes of one probe record: what a file spells it by, and what its spelling says. Version 2
+//! spells numbers in groups of seven bits and leaves out those that are 0.
+#![tactic(auto)]
+
+mod decoded;
+mod short;
+mod short_bodies;
+mod short_kinds;
+mod short_pieces;
+#[cfg(test)]
+mod short_tests;
+mod varints;
+
+pub use decoded::Decoded;
+pub use short::{decode2, encode2};
+pub use short_kinds::Kind;
