@@ -1,5 +1,5 @@
 -- Reading from left to right: what each piece at the front of some bytes is, or where it stops.
-use Rattle.std.specs.Prelude.{ℕ, zero, suc, ◌≡◌, ◌<◌, ◌+◌, ◌-◌, ◌*◌, ◌/◌, ◌%◌, ◌^◌, ◌==◌, Bool, true, false, if◌then◌else◌, Option, Some, None, Result, Ok, Err, List, [], ◌∷◌, ◌++◌, length, take, drop, replicate, nat_lt, slice_index, option_and_then}
+use Rattle.std.specs.Prelude.{ℕ, zero, suc, ◌≡◌, ◌<◌, ◌+◌, ◌-◌, ◌*◌, ◌/◌, ◌%◌, ◌^◌, ◌==◌, Bool, true, false, not, if◌then◌else◌, Option, Some, None, Result, Ok, Err, List, [], ◌∷◌, ◌++◌, length, take, drop, replicate, nat_lt, slice_index, option_and_then}
 use Rattle.dt_record.specs.declared.records.Record.{Record}
 use Rattle.dt_record.specs.declared.records.Retire.{Retire}
 use Rattle.dt_record.specs.declared.records.Body.{Body}
@@ -53,6 +53,10 @@ unfoldable pub byte_from : List ℕ → Result (ℕ × List ℕ) Stop
 byte_from [] = Err stops.Short
 byte_from (b ∷ after) = Ok (b, after)
 
+-- no number that isn't 0 goes on with this group, where at most so many follow it
+abbrev pub is_wrong_group : ℕ → ℕ → Bool
+is_wrong_group more b = if more == 0 then not (b == 1) else b == 0
+
 -- a number that isn't 0, of at most so many bytes after the first
 unfoldable pub groups_at : ℕ → List ℕ → Result (ℕ × List ℕ) Stop
 groups_at zero [] = Err stops.Short
@@ -61,7 +65,7 @@ groups_at zero (b ∷ after) = if b == 1 then Ok (1, after) else bad after
 groups_at (suc more) (b ∷ after) =
     if b == 0 then bad after
     else if nat_lt b 128 then Ok (b, after)
-    else groups_at more after >>= λ high. Ok (b - 128 + 128 * high.0, high.1)
+    else (groups_at more after >>= λ high. Ok (b - 128 + 128 * high.0, high.1))
 
 unfoldable pub later_at : List ℕ → Result (ℕ × List ℕ) Stop
 later_at [] = groups_at 9 []
@@ -73,7 +77,7 @@ unfoldable pub presence_at : ℕ → ℕ → List ℕ → Result (ℕ × List �
 presence_at zero fields bytes = Ok (0, bytes)
 presence_at (suc more) fields [] = Err stops.Short
 presence_at (suc more) fields (b ∷ after) =
-    if nat_lt b (2 ^ fields) then presence_at more (fields - 8) after >>= λ high. Ok (b + 256 * high.0, high.1)
+    if nat_lt b (2 ^ fields) then (presence_at more (fields - 8) after >>= λ high. Ok (b + 256 * high.0, high.1))
     else bad after
 
 unfoldable pub field_at : Bool → List ℕ → Result (ℕ × List ℕ) Stop
@@ -122,9 +126,9 @@ below bound n = if nat_lt n bound then Some n else None
 abbrev pub flag_at : ℕ → Option Bool
 flag_at n = if n == 0 then Some false else if n == 1 then Some true else None
 
--- so many numbers from the front
-abbrev pub front_at : ℕ → List ℕ → Option (List ℕ)
-front_at n xs = if nat_lt (length xs) n then None else Some (take n xs)
+-- a whole line
+abbrev pub whole_line : List ℕ → Option (List ℕ)
+whole_line line = if nat_lt (length line) 64 then None else Some (take 64 line)
 
 -- the byte at a place of a line, from the bytes that are left of those that were spelled
 abbrev pub next_byte : Bool → List ℕ → ℕ
@@ -160,9 +164,8 @@ abbrev pub body_at : Kind → List ℕ → List ℕ → Option Body
 body_at kinds.Commit numbers line = option_and_then (λ retire. Some (bodies.Commit retire)) (retire_at numbers)
 body_at kinds.Trap numbers line =
     option_and_then (λ bits. Some (bodies.Trap (number numbers 0) bits (number numbers 2) (number numbers 3))) (below (2 ^ 32) (number numbers 1))
-body_at kinds.Regs numbers line = option_and_then (λ x. Some (bodies.Regs (number numbers 0) x)) (front_at 31 (drop 1 numbers))
-body_at kinds.Csrs numbers line =
-    option_and_then (λ mode. option_and_then (λ v. Some (bodies.Csrs mode v)) (front_at 17 (drop 1 numbers))) (below (2 ^ 8) (number numbers 0))
+body_at kinds.Regs numbers line = Some (bodies.Regs (number numbers 0) (take 31 (drop 1 numbers)))
+body_at kinds.Csrs numbers line = option_and_then (λ mode. Some (bodies.Csrs mode (take 17 (drop 1 numbers)))) (below (2 ^ 8) (number numbers 0))
 body_at kinds.Load numbers line =
     option_and_then (λ retire. Some (bodies.Load retire (number numbers 3) (number numbers 4))) (retire_at numbers)
 body_at kinds.Store numbers line =
@@ -170,7 +173,7 @@ body_at kinds.Store numbers line =
 body_at kinds.Atomic numbers line = atomic_at numbers
 body_at kinds.Drain numbers line =
     option_and_then (λ count. Some (bodies.Drain (number numbers 0) (number numbers 1) count (spread 64 (number numbers 1) line))) (below (2 ^ 16) (number numbers 2))
-body_at kinds.Refill numbers line = option_and_then (λ bytes. Some (bodies.Refill (number numbers 0) bytes)) (front_at 64 line)
+body_at kinds.Refill numbers line = option_and_then (λ bytes. Some (bodies.Refill (number numbers 0) bytes)) (whole_line line)
 body_at kinds.Beat numbers line = Some bodies.Beat
 
 abbrev pub if_lawful : Record → Option Record

@@ -1,12 +1,12 @@
 use dt_record::Record;
 
-/// What stands at the front of some bytes.
+/// What the bytes of a record are, as far as they are there.
 #[derive(Clone, Copy, Debug, PartialEq, Eq)]
 pub enum Decoded {
-    /// A record, whose spelling takes so many bytes.
+    /// The bytes begin with a record, and so many of them are its spelling.
     Got { event: Record, len: usize },
-    /// Less than a whole record.
+    /// The bytes may be the beginning of a record.
     Short,
-    /// No record, whatever follows. `at` is the place of what is wrong.
+    /// The bytes are no record, whatever follows them: the place of what is wrong.
     Bad { at: usize },
 }

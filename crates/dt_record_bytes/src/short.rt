@@ -20,8 +20,10 @@ fn presence_of(numbers: &[u64]) -> u32
     ensures { result ≡ presence numbers.now }
 {
     let mut bits: u64 = 0;
-    for number in numbers.iter().rev() {
-        bits = 2 * bits + u64::from(*number != 0);
+    let mut left = numbers.len();
+    while left > 0 {
+        left -= 1;
+        bits = 2 * bits + u64::from(numbers[left] != 0);
     }
     bits as u32
 }

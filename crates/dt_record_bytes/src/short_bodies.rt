@@ -1,6 +1,6 @@
 ghost use Rattle.std.specs.Prelude.{◌≡◌, ◌≤◌, ◌<◌, ◌+◌, ◌^◌, ◌++◌, ◌∷◌, length, take, OnOk, if◌then◌else◌, []};
 ghost use Rattle.dt_record.specs.Spelling.{number_fields, line_bytes, masked_bytes};
-ghost use Rattle.dt_record_bytes.specs.ShortReading.{padded, below, flag_at, front_at, next_byte, line_after, spread, retire_at, atomic_at, body_at};
+ghost use Rattle.dt_record_bytes.specs.ShortReading.{padded, below, flag_at, whole_line, next_byte, line_after, spread, retire_at, atomic_at, body_at};
 
 use crate::short_kinds::Kind;
 use dt_record::{Body, Retire};
@@ -94,12 +94,14 @@ pub(crate) fn body_of(kind: Kind, numbers: &[u64; 32], line: &[u8]) -> Option<Bo
             })
         }
         Kind::Regs => {
-            let x = *numbers[1..].first_chunk::<31>()?;
+            let mut x = [0; 31];
+            x.copy_from_slice(&numbers[1..32]);
             Some(Body::Regs { pc: numbers[0], x })
         }
         Kind::Csrs => {
             let mode = byte_of(numbers[0])?;
-            let v = *numbers[1..].first_chunk::<17>()?;
+            let mut v = [0; 17];
+            v.copy_from_slice(&numbers[1..18]);
             Some(Body::Csrs { mode, v })
         }
         Kind::Load => {

@@ -1,6 +1,6 @@
 ghost use Rattle.std.specs.Prelude.{◌≡◌, ◌≤◌, ◌<◌, ◌+◌, ◌*◌, ◌^◌, ◌++◌, length, OnOk, IfOk};
 ghost use Rattle.dt_record.specs.Spelling.{varint};
-ghost use Rattle.dt_record_bytes.specs.ShortReading.{Gives, groups_at, later_at};
+ghost use Rattle.dt_record_bytes.specs.ShortReading.{Gives, is_wrong_group, groups_at, later_at};
 
 use crate::short_pieces::Stop;
 use std::alloc::AllocError;
@@ -18,6 +18,13 @@ pub(crate) fn push_varint(out: &mut Vec<u8>, number: u64) -> Result<(), AllocErr
     Ok(())
 }
 
+/// Whether no number that isn't 0 goes on with this group, where at most so many follow it.
+fn is_wrong(more: u8, group: u64) -> bool
+    ensures { result ≡ is_wrong_group more group }
+{
+    if more == 0 { group != 1 } else { group == 0 }
+}
+
 /// The number at the front that isn't 0, where at most so many bytes follow its first.
 pub(crate) fn read_groups(b: &[u8], more: u8) -> Result<(u64, &[u8]), Stop>
     requires { more ≤ 9 }
@@ -28,7 +35,7 @@ pub(crate) fn read_groups(b: &[u8], more: u8) -> Result<(u64, &[u8]), Stop>
         [] => Err(Stop::Short),
         [first, rest @ ..] => {
             let group = u64::from(*first);
-            if more == 0 && group != 1 || group == 0 {
+            if is_wrong(more, group) {
                 return Err(Stop::Bad { left: b.len() });
             }
             if group < 128 {
@@ -41,6 +48,7 @@ pub(crate) fn read_groups(b: &[u8], more: u8) -> Result<(u64, &[u8]), Stop>
 }
 
 /// The number at the front.
+#[tactic(auto, unfolding(crate::specs::ShortReading::later_at))]
 pub(crate) fn read_varint(b: &[u8]) -> Result<(u64, &[u8]), Stop>
     ensures { Gives (λ x. (x.0, x.1.now)) result (later_at b.now) }
 {
