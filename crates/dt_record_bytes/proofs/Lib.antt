@@ -5,3 +5,5 @@ pub mod ShortTexts
 pub mod ShortLists
 pub mod ShortChain
 pub mod ShortSteps
+pub mod ShortSpread
+pub mod ShortPresence

@@ -2,13 +2,14 @@
 use Rattle.std.proofs.Common.{◌≡◌, ℕ, zero, suc, Bool, true, false, cond, eqb, ◌+◌, ◌-◌, ◌*◌, ◌/◌, ◌%◌, ◌^◌, ◌<◌, ◌≤◌, List, [], ◌∷◌, ◌++◌, length, take, replicate, get_or, Result, Ok, Err, refl, sym, ap, subst, ◌∙◌, arith}
 use Rattle.std.specs.List.{flat_map}
 use Rattle.std.specs.Prelude.{count_ones}
-use Rattle.std.proofs.lemmas.List.{append_assoc, append-nil}
+use Rattle.std.proofs.lemmas.List.{append_assoc, append-nil, length-append}
 use Rattle.std.proofs.lemmas.Nat.{pow-add}
 use Rattle.dt_record.specs.Lawful.{FitsList}
 use Rattle.dt_record.specs.Spelling.{varint, word, present_bytes, presence, presence_bytes}
 use Rattle.dt_record_bytes.specs.declared.short_kinds.Kind.{Kind}
 use Rattle.dt_record_bytes.specs.declared.short_kinds.Kind.TheVariants as kinds
 use Rattle.dt_record_bytes.specs.declared.short_pieces.Stop.{Stop}
+use Rattle.dt_record_bytes.specs.declared.short_pieces.Stop.TheVariants as stops
 use Rattle.dt_record_bytes.specs.ShortForms.{kind_number, field_count, line_count, Form, form_bytes, FitsForm}
 use Rattle.dt_record_bytes.specs.ShortReading.{◌>>=◌, Read, kind_at, byte_from, later_at, presence_at, padded, padded_at, line_at, read_at}
 use Rattle.dt_record_bytes.proofs.ShortGrammar.{IsBytes, IsBytes-back, Reads, IsFree, IsInhabited, Then, Ends, Ends-reads, Ends-free, Ends-inhabited, Then-free, Then-inhabited, Then-reads}
@@ -227,15 +228,15 @@ to_form text read r =
     let e2 : r.back ≡ h.x ∷ h.back = h.whole ∙ ap (λ (t : List ℕ). t ++ h.back) h.front_piece.same in
     let e3 : h.back ≡ varint l.x ++ l.back = l.whole ∙ ap (λ (t : List ℕ). t ++ l.back) l.front_piece.text_is in
     let bytes : p.front ≡ presence_bytes numbers =
-        p.front_piece.text_is ∙ ap (low_bytes (groups kind)) (sym fields.bits_are) ∙ sym (presence_spelled kind numbers fields.fits.count_is) in
+    p.front_piece.text_is ∙ ap (low_bytes (groups kind)) (sym fields.bits_are) ∙ sym (presence_spelled kind numbers fields.fits.count_is) in
     let e4 : l.back ≡ presence_bytes numbers ++ p.back = p.whole ∙ ap (λ (t : List ℕ). t ++ p.back) bytes in
     let spelled : n.front ≡ flat_map present_bytes numbers =
-        f.whole ∙ ap (λ (t : List ℕ). f.front ++ t) f.back_piece.nothing ∙ append-nil f.front ∙ fields.text_is in
+    f.whole ∙ ap (λ (t : List ℕ). f.front ++ t) f.back_piece.nothing ∙ append-nil f.front ∙ fields.text_is in
     let e5 : p.back ≡ flat_map present_bytes numbers ++ n.back = n.whole ∙ ap (λ (t : List ℕ). t ++ n.back) spelled in
     let e6 : n.back ≡ e.x = e.whole ∙ ap (λ (t : List ℕ). e.front ++ t) e.back_piece.nothing ∙ append-nil e.front ∙ e.front_piece.same in
     let tail : h.back ≡ varint l.x ++ presence_bytes numbers ++ flat_map present_bytes numbers ++ e.x =
-        e3 ∙ ap (λ (t : List ℕ). varint l.x ++ t) (e4 ∙ ap (λ (t : List ℕ). presence_bytes numbers ++ t) (e5 ∙ ap (λ (t : List ℕ). flat_map present_bytes numbers ++ t) e6))
-        ∙ regroup (varint l.x) (presence_bytes numbers) (flat_map present_bytes numbers) e.x in
+    e3 ∙ ap (λ (t : List ℕ). varint l.x ++ t) (e4 ∙ ap (λ (t : List ℕ). presence_bytes numbers ++ t) (e5 ∙ ap (λ (t : List ℕ). flat_map present_bytes numbers ++ t) e6))
+    ∙ regroup (varint l.x) (presence_bytes numbers) (flat_map present_bytes numbers) e.x in
     let form : Form = record { kind = kind; hart = h.x; later = l.x; numbers = numbers; line = e.x } in
     let same : n.x ≡ padded numbers = f.back_piece.same in
     record {
@@ -308,3 +309,14 @@ from_form f fits =
       };
       whole = refl;
     }
+
+-- what is left is within the bytes
+pub rest_within : (bytes : List ℕ) (read : Read) (rest : List ℕ) → IsBytes bytes → read_at bytes ≡ Ok (read, rest) → length rest ≤ length bytes
+rest_within bytes read rest fits e =
+    let h = subst (λ (r : Result (Read × List ℕ) Stop). Reads ReadText bytes r) e (read_reads bytes fits) in
+    omega (arith, ap length h.parts, length-append h.text rest)
+
+pub left_within : (bytes : List ℕ) (left : ℕ) → IsBytes bytes → read_at bytes ≡ Err (stops.Bad left) → left ≤ length bytes
+left_within bytes left fits e =
+    let h = subst (λ (r : Result (Read × List ℕ) Stop). Reads ReadText bytes r) e (read_reads bytes fits) in
+    omega (arith, h.left_is, ap length h.parts, length-append h.good (h.wrong ∷ h.rest))

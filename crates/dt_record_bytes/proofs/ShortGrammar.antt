@@ -1,6 +1,6 @@
 -- A piece at the front of some bytes, and pieces one after another: what was read, what lacks bytes
 -- and where the bytes go wrong, each exactly.
-use Rattle.std.proofs.Common.{◌≡◌, ℕ, ◌+◌, ◌<◌, List, [], ◌∷◌, ◌++◌, length, Result, Ok, Err, refl, sym, ap, subst, ◌∙◌, arith}
+use Rattle.std.proofs.Common.{◌≡◌, ℕ, ◌+◌, ◌<◌, suc, get_or, List, [], ◌∷◌, ◌++◌, length, Result, Ok, Err, refl, sym, ap, subst, ◌∙◌, arith}
 use Rattle.std.specs.List.{AllByRecursion}
 use Rattle.std.proofs.lemmas.List.{append_assoc, append-nil, append_cancel_left, length-append}
 use Rattle.dt_record_bytes.specs.declared.short_pieces.Stop.{Stop}
@@ -279,3 +279,7 @@ Reads-cons G H b value up down after (Err (Bad left)) h = record {
 pub Breaks-first : {A : Type 0} (G : List ℕ → A → Type 0) (wrong : ℕ) (rest : List ℕ) → IsInhabited G
     → ((text tail after : List ℕ) (y : A) → G text y → text ++ tail ≡ wrong ∷ after → ⊥) → Breaks G (wrong ∷ rest) (length rest + 1)
 Breaks-first G wrong rest some never = record { good = []; wrong = wrong; rest = rest; parts = refl; left_is = refl; more = some.text; x = some.x; piece = some.piece; never = never }
+
+pub bytes_from : (bytes : List ℕ) → ((i : ℕ) → get_or bytes i 0 < 256) → IsBytes bytes
+bytes_from [] h = tt
+bytes_from (b ∷ bytes) h = (h 0, bytes_from bytes (λ i. h (suc i)))

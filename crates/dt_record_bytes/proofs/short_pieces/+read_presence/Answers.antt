@@ -21,7 +21,7 @@ returns-in_err-high-in-len1-up-clause-gives t c =
     let fields : c.saturating_sub.result ≡ c.args.fields - 8 = omega arith in
     let p = err_from_is_err_and c.from_residual.result c.from_residual.ensures.1 in
     rw (p.1, p.2) (presence_on c.args.bytes c.args.fields c.from.result c.args.b.now (Err c.in_err-high-in-len1-up.field-0.0) (λ e. omega arith) (omega arith) (omega arith) (omega arith)
-      (rw (← fields) c.in_err-high-in-len1-up.ensures.gives))
+    (rw (← fields) c.in_err-high-in-len1-up.ensures.gives))
 
 pub returns-in_ok-high-in-len1-up-clause-gives : goal.returns-in_ok-high-in-len1-up-clause-gives
 returns-in_ok-high-in-len1-up-clause-gives t c =
@@ -29,7 +29,7 @@ returns-in_ok-high-in-len1-up-clause-gives t c =
     let fields : c.saturating_sub.result ≡ c.args.fields - 8 = omega arith in
     let same : c.from-in-len1-up.result ≡ c.from.result = omega arith in
     rw same (presence_on c.args.bytes c.args.fields c.from.result c.args.b.now (Ok (c.in_ok-high-in-len1-up.high, c.in_ok-high-in-len1-up.rest.now)) (λ e. omega arith) (omega arith) (omega arith) (omega arith)
-      (rw (← fields) c.in_ok-high-in-len1-up.ensures.gives))
+    (rw (← fields) c.in_ok-high-in-len1-up.ensures.gives))
 
 pub returns-in_ok-high-in-len1-up-clause-bound : goal.returns-in_ok-high-in-len1-up-clause-bound
 returns-in_ok-high-in-len1-up-clause-bound t c =
