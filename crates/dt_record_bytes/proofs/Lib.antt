@@ -7,3 +7,4 @@ pub mod ShortChain
 pub mod ShortSteps
 pub mod ShortSpread
 pub mod ShortPresence
+pub mod ShortRecords
