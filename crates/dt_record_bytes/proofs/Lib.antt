@@ -8,3 +8,4 @@ pub mod ShortSteps
 pub mod ShortSpread
 pub mod ShortPresence
 pub mod ShortRecords
+pub mod ShortAnswers

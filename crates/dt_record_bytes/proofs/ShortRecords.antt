@@ -1,7 +1,7 @@
 -- The record that a form says, and the form of a record.
-use Rattle.std.proofs.Common.{◌≡◌, ℕ, zero, suc, ◌+◌, ◌-◌, ◌*◌, ◌^◌, ◌<◌, ◌≤◌, Bool, true, false, cond, eqb, ltb, List, [], ◌∷◌, ◌++◌, length, take, drop, get_or, replicate, Option, Some, None, refl, sym, ap, subst, ◌∙◌, arith}
+use Rattle.std.proofs.Common.{◌≡◌, ℕ, zero, suc, ◌+◌, ◌-◌, ◌*◌, ◌^◌, ◌<◌, ◌≤◌, Bool, true, false, cond, eqb, ltb, not, List, [], ◌∷◌, ◌++◌, length, take, drop, get_or, replicate, Option, Some, None, refl, sym, ap, subst, ◌∙◌, arith}
 use Rattle.std.specs.Option.{option_and_then}
-use Rattle.std.specs.List.{AllByRecursion}
+use Rattle.std.specs.List.{AllByRecursion, flat_map}
 use Rattle.std.specs.Prelude.{count_ones, ◌&&◌}
 use Rattle.std.proofs.lemmas.Bool.{ltb-true, lt-ltb, le-ltb, eqb-true, and_parts}
 use Rattle.std.proofs.lemmas.List.{take_at, take_all}
@@ -10,8 +10,8 @@ use Rattle.dt_record.specs.declared.records.Record.{Record}
 use Rattle.dt_record.specs.declared.records.Retire.{Retire}
 use Rattle.dt_record.specs.declared.records.Body.{Body}
 use Rattle.dt_record.specs.declared.records.Body.TheVariants.{Commit, Trap, Regs, Csrs, Load, Store, Atomic, Drain, Refill, Beat}
-use Rattle.dt_record.specs.Lawful.{FitsRetire, FitsList, FitsBody, FitsRecord, is_lawful, is_masked}
-use Rattle.dt_record.specs.Spelling.{flag, number_fields, line_bytes, masked_bytes, short_bytes}
+use Rattle.dt_record.specs.Lawful.{FitsRetire, FitsList, FitsBody, FitsRecord, is_lawful, is_masked, is_ram_line}
+use Rattle.dt_record.specs.Spelling.{flag, varint, presence_bytes, present_bytes, number_fields, line_bytes, masked_bytes, short_bytes}
 use Rattle.dt_record.specs.Tags.{tag_number}
 use Rattle.dt_record_bytes.specs.declared.short_kinds.Kind.{Kind}
 use Rattle.dt_record_bytes.specs.declared.short_kinds.Kind.TheVariants as kinds
@@ -50,7 +50,8 @@ tag_is Beat = refl
 -- a spelling is the bytes of a form
 pub spelling_is : (last : ℕ) (r : Record) → short_bytes last r ≡ form_bytes (form_of last r)
 unfolding short_bytes
-spelling_is last r = ap (λ (n : ℕ). n ∷ _) (tag_is r.body)
+spelling_is last r =
+    ap (λ (n : ℕ). n ∷ r.hart ∷ varint (r.stamp - last) ++ presence_bytes (number_fields r.body) ++ flat_map present_bytes (number_fields r.body) ++ line_bytes r.body) (tag_is r.body)
 
 flag_below : (b : Bool) → flag b < 2 ^ 64
 flag_below true = omega arith
@@ -115,7 +116,7 @@ body_again (Load retire at paddr) fits clear = ap (option_and_then (λ (r : Reti
 body_again (Store pc bits paddr value) fits clear = ap (option_and_then (λ (b : ℕ). Some (Store pc b paddr value))) (below_is (2 ^ 32) bits fits.1)
 body_again (Atomic retire paddr width wrote new) fits clear =
     ap (option_and_then (λ (r : Retire). option_and_then (λ (w : ℕ). option_and_then (λ (f : Bool). Some (Atomic r paddr w f new)) (flag_at (flag wrote))) (below (2 ^ 8) width)))
-      (retire_again retire (paddr ∷ width ∷ flag wrote ∷ new ∷ replicate 25 0) fits.0)
+    (retire_again retire (paddr ∷ width ∷ flag wrote ∷ new ∷ replicate 25 0) fits.0)
     ∙ ap (option_and_then (λ (w : ℕ). option_and_then (λ (f : Bool). Some (Atomic retire paddr w f new)) (flag_at (flag wrote)))) (below_is (2 ^ 8) width fits.2)
     ∙ ap (option_and_then (λ (f : Bool). Some (Atomic retire paddr width f new))) (flag_again wrote)
 body_again (Drain line mask count bytes) fits clear =
@@ -127,6 +128,14 @@ body_again (Refill line bytes) fits clear =
     ∙ ap (λ (xs : List ℕ). Some (Refill line xs)) (take_all 64 bytes (omega arith))
 body_again Beat fits clear = refl
 
+clear_last : (a b c d e : Bool) → (a && (b && (c && (d && (e && true))))) ≡ true → e ≡ true
+clear_last a b c d e all =
+    let behind_a = (and_parts a (b && (c && (d && (e && true)))) all).1 in
+    let behind_b = (and_parts b (c && (d && (e && true))) behind_a).1 in
+    let behind_c = (and_parts c (d && (e && true)) behind_b).1 in
+    let behind_d = (and_parts d (e && true) behind_c).1 in
+    (and_parts e true behind_d).0
+
 clear_body : (stamp hart : ℕ) (b : Body) → is_lawful (record { stamp = stamp; hart = hart; body = b }) ≡ true → IsClear b
 clear_body stamp hart (Commit retire) lawful = tt
 clear_body stamp hart (Trap pc bits cause tval) lawful = tt
@@ -136,11 +145,7 @@ clear_body stamp hart (Load retire at paddr) lawful = tt
 clear_body stamp hart (Store pc bits paddr value) lawful = tt
 clear_body stamp hart (Atomic retire paddr width wrote new) lawful = tt
 clear_body stamp hart (Drain line mask count bytes) lawful =
-    let behind_hart = (and_parts _ _ lawful).1 in
-    let behind_line = (and_parts _ _ behind_hart).1 in
-    let behind_mask = (and_parts _ _ behind_line).1 in
-    let behind_count = (and_parts _ _ behind_mask).1 in
-    (and_parts _ _ behind_count).0
+    clear_last (ltb hart 8) (is_ram_line line) (not (eqb mask 0)) (not (eqb count 0)) (is_masked mask bytes) lawful
 clear_body stamp hart (Refill line bytes) lawful = tt
 clear_body stamp hart Beat lawful = tt
 
@@ -152,9 +157,9 @@ record_again last r follows =
     let sum : last + (r.stamp - last) ≡ r.stamp = omega arith in
     let clear = clear_body r.stamp r.hart r.body follows.lawful in
     ap (λ (n : ℕ). option_and_then (λ (stamp : ℕ). option_and_then (λ (b : Body). if_lawful (record { stamp = stamp; hart = r.hart; body = b }))
-      (body_at (kind_of_body r.body) (padded (number_fields r.body)) (line_bytes r.body))) (below (2 ^ 64) n)) sum
+    (body_at (kind_of_body r.body) (padded (number_fields r.body)) (line_bytes r.body))) (below (2 ^ 64) n)) sum
     ∙ ap (option_and_then (λ (stamp : ℕ). option_and_then (λ (b : Body). if_lawful (record { stamp = stamp; hart = r.hart; body = b }))
-      (body_at (kind_of_body r.body) (padded (number_fields r.body)) (line_bytes r.body)))) (below_is (2 ^ 64) r.stamp fits)
+    (body_at (kind_of_body r.body) (padded (number_fields r.body)) (line_bytes r.body)))) (below_is (2 ^ 64) r.stamp fits)
     ∙ ap (option_and_then (λ (b : Body). if_lawful (record { stamp = r.stamp; hart = r.hart; body = b }))) (body_again r.body follows.fits.body clear)
     ∙ ap (λ (t : Bool). cond {A = Option Record} t (Some r) None) follows.lawful
 
@@ -193,7 +198,7 @@ commit_cases : (a n c : ℕ) (line : List ℕ) (b : Body) → a < 2 ^ 64 → c <
     → Says b kinds.Commit (a ∷ n ∷ c ∷ []) line
 commit_cases a n c line b fa fc none true et e =
     some_body (Commit (record { pc = a; bits = n; value = c })) b (λ (b : Body). Says b kinds.Commit (a ∷ n ∷ c ∷ []) line) e
-      (record { kind_is = refl; fits = record { pc = fa; bits = ltb-true n (2 ^ 32) et; value = fc }; numbers_are = refl; line_is = none })
+    (record { kind_is = refl; fits = record { pc = fa; bits = ltb-true n (2 ^ 32) et; value = fc }; numbers_are = refl; line_is = none })
 commit_cases a n c line b fa fc none false et e = absurd cc
 
 commit_taken : (a n c : ℕ) (line : List ℕ) (b : Body) → Taken kinds.Commit line (a ∷ n ∷ c ∷ []) b
@@ -203,7 +208,7 @@ trap_cases : (a n c d : ℕ) (line : List ℕ) (b : Body) → a < 2 ^ 64 → c <
     → option_and_then (λ (bits : ℕ). Some (Trap a bits c d)) (cond {A = Option ℕ} t (Some n) None) ≡ Some b → Says b kinds.Trap (a ∷ n ∷ c ∷ d ∷ []) line
 trap_cases a n c d line b fa fc fd none true et e =
     some_body (Trap a n c d) b (λ (b : Body). Says b kinds.Trap (a ∷ n ∷ c ∷ d ∷ []) line) e
-      (record { kind_is = refl; fits = (fa, ltb-true n (2 ^ 32) et, fc, fd); numbers_are = refl; line_is = none })
+    (record { kind_is = refl; fits = (fa, ltb-true n (2 ^ 32) et, fc, fd); numbers_are = refl; line_is = none })
 trap_cases a n c d line b fa fc fd none false et e = absurd cc
 
 trap_taken : (a n c d : ℕ) (line : List ℕ) (b : Body) → Taken kinds.Trap line (a ∷ n ∷ c ∷ d ∷ []) b
@@ -216,7 +221,7 @@ regs_taken pc x line b fits lines e =
     let long : length x ≡ 31 = omega arith in
     let same : take 31 (x ++ replicate (32 - suc (length x)) 0) ≡ x = take_at x (replicate (32 - suc (length x)) 0) 31 long in
     some_body (Regs pc x) b (λ (b : Body). Says b kinds.Regs (pc ∷ x) line) (ap (λ (xs : List ℕ). Some (Regs pc xs)) (sym same) ∙ e)
-      (record { kind_is = refl; fits = (fits.each.0, record { count_is = long; each = fits.each.1 }); numbers_are = refl; line_is = no_line line lines.count_is })
+    (record { kind_is = refl; fits = (fits.each.0, record { count_is = long; each = fits.each.1 }); numbers_are = refl; line_is = no_line line lines.count_is })
 
 csrs_cases : (mode : ℕ) (v line : List ℕ) (b : Body) → FitsList 17 (2 ^ 64) v → [] ≡ line → (t : Bool) → ltb mode (2 ^ 8) ≡ t
     → option_and_then (λ (m : ℕ). Some (Csrs m v)) (cond {A = Option ℕ} t (Some mode) None) ≡ Some b → Says b kinds.Csrs (mode ∷ v) line
@@ -230,14 +235,14 @@ csrs_taken mode v line b fits lines e =
     let long : length v ≡ 17 = omega arith in
     let same : take 17 (v ++ replicate (32 - suc (length v)) 0) ≡ v = take_at v (replicate (32 - suc (length v)) 0) 17 long in
     csrs_cases mode v line b (record { count_is = long; each = fits.each.1 }) (no_line line lines.count_is) (ltb mode (2 ^ 8)) refl
-      (ap (λ (xs : List ℕ). option_and_then (λ (m : ℕ). Some (Csrs m xs)) (below (2 ^ 8) mode)) (sym same) ∙ e)
+    (ap (λ (xs : List ℕ). option_and_then (λ (m : ℕ). Some (Csrs m xs)) (below (2 ^ 8) mode)) (sym same) ∙ e)
 
 load_cases : (a n c d f : ℕ) (line : List ℕ) (b : Body) → a < 2 ^ 64 → c < 2 ^ 64 → d < 2 ^ 64 → f < 2 ^ 64 → [] ≡ line → (t : Bool) → ltb n (2 ^ 32) ≡ t
     → option_and_then (λ (r : Retire). Some (Load r d f)) (option_and_then (λ (bits : ℕ). Some (record { pc = a; bits = bits; value = c })) (cond {A = Option ℕ} t (Some n) None)) ≡ Some b
     → Says b kinds.Load (a ∷ n ∷ c ∷ d ∷ f ∷ []) line
 load_cases a n c d f line b fa fc fd ff none true et e =
     some_body (Load (record { pc = a; bits = n; value = c }) d f) b (λ (b : Body). Says b kinds.Load (a ∷ n ∷ c ∷ d ∷ f ∷ []) line) e
-      (record { kind_is = refl; fits = (record { pc = fa; bits = ltb-true n (2 ^ 32) et; value = fc }, fd, ff); numbers_are = refl; line_is = none })
+    (record { kind_is = refl; fits = (record { pc = fa; bits = ltb-true n (2 ^ 32) et; value = fc }, fd, ff); numbers_are = refl; line_is = none })
 load_cases a n c d f line b fa fc fd ff none false et e = absurd cc
 
 load_taken : (a n c d f : ℕ) (line : List ℕ) (b : Body) → Taken kinds.Load line (a ∷ n ∷ c ∷ d ∷ f ∷ []) b
@@ -248,7 +253,7 @@ store_cases : (a n c d : ℕ) (line : List ℕ) (b : Body) → a < 2 ^ 64 → c 
     → option_and_then (λ (bits : ℕ). Some (Store a bits c d)) (cond {A = Option ℕ} t (Some n) None) ≡ Some b → Says b kinds.Store (a ∷ n ∷ c ∷ d ∷ []) line
 store_cases a n c d line b fa fc fd none true et e =
     some_body (Store a n c d) b (λ (b : Body). Says b kinds.Store (a ∷ n ∷ c ∷ d ∷ []) line) e
-      (record { kind_is = refl; fits = (fa, ltb-true n (2 ^ 32) et, fc, fd); numbers_are = refl; line_is = none })
+    (record { kind_is = refl; fits = (fa, ltb-true n (2 ^ 32) et, fc, fd); numbers_are = refl; line_is = none })
 store_cases a n c d line b fa fc fd none false et e = absurd cc
 
 store_taken : (a n c d : ℕ) (line : List ℕ) (b : Body) → Taken kinds.Store line (a ∷ n ∷ c ∷ d ∷ []) b
@@ -271,13 +276,13 @@ wrote_cases : (a n c d width m new : ℕ) (line : List ℕ) (b : Body) → FitsR
     → Says b kinds.Atomic (a ∷ n ∷ c ∷ d ∷ width ∷ m ∷ new ∷ []) line
 wrote_cases a n c d width m new line b fits fd fw fn none (Some wrote) eo e =
     some_body (Atomic (record { pc = a; bits = n; value = c }) d width wrote new) b (λ (b : Body). Says b kinds.Atomic (a ∷ n ∷ c ∷ d ∷ width ∷ m ∷ new ∷ []) line) e
-      (record { kind_is = refl; fits = (fits, fd, fw, fn); numbers_are = ap (λ (k : ℕ). a ∷ n ∷ c ∷ d ∷ width ∷ k ∷ new ∷ []) (flag_is m wrote eo); line_is = none })
+    (record { kind_is = refl; fits = (fits, fd, fw, fn); numbers_are = ap (λ (k : ℕ). a ∷ n ∷ c ∷ d ∷ width ∷ k ∷ new ∷ []) (flag_is m wrote eo); line_is = none })
 wrote_cases a n c d width m new line b fits fd fw fn none None eo e = absurd cc
 
 atomic_cases : (a n c d width m new : ℕ) (line : List ℕ) (b : Body) → a < 2 ^ 64 → c < 2 ^ 64 → d < 2 ^ 64 → new < 2 ^ 64 → [] ≡ line
     → (s t : Bool) → ltb n (2 ^ 32) ≡ s → ltb width (2 ^ 8) ≡ t
     → option_and_then (λ (r : Retire). option_and_then (λ (w : ℕ). option_and_then (λ (wrote : Bool). Some (Atomic r d w wrote new)) (flag_at m)) (cond {A = Option ℕ} t (Some width) None))
-      (option_and_then (λ (bits : ℕ). Some (record { pc = a; bits = bits; value = c })) (cond {A = Option ℕ} s (Some n) None)) ≡ Some b
+    (option_and_then (λ (bits : ℕ). Some (record { pc = a; bits = bits; value = c })) (cond {A = Option ℕ} s (Some n) None)) ≡ Some b
     → Says b kinds.Atomic (a ∷ n ∷ c ∷ d ∷ width ∷ m ∷ new ∷ []) line
 atomic_cases a n c d width m new line b fa fc fd fn none true true es et e =
     wrote_cases a n c d width m new line b (record { pc = fa; bits = ltb-true n (2 ^ 32) es; value = fc }) fd (ltb-true width (2 ^ 8) et) fn none (flag_at m) refl e
@@ -292,12 +297,12 @@ drain_cases : (a mask n : ℕ) (line : List ℕ) (b : Body) → a < 2 ^ 64 → m
     → option_and_then (λ (count : ℕ). Some (Drain a mask count (spread 64 mask line))) (cond {A = Option ℕ} t (Some n) None) ≡ Some b → Says b kinds.Drain (a ∷ mask ∷ n ∷ []) line
 drain_cases a mask n line b fa fm fits true et e =
     some_body (Drain a mask n (spread 64 mask line)) b (λ (b : Body). Says b kinds.Drain (a ∷ mask ∷ n ∷ []) line) e
-      (record {
-        kind_is = refl;
-        fits = (fa, fm, ltb-true n (2 ^ 16) et, record { count_is = spread_length 64 mask line; each = spread_each 64 mask line fits.each });
-        numbers_are = refl;
-        line_is = spread_back 64 mask line fits.count_is fm;
-      })
+    (record {
+      kind_is = refl;
+      fits = (fa, fm, ltb-true n (2 ^ 16) et, record { count_is = spread_length 64 mask line; each = spread_each 64 mask line fits.each });
+      numbers_are = refl;
+      line_is = spread_back 64 mask line fits.count_is fm;
+    })
 drain_cases a mask n line b fa fm fits false et e = absurd cc
 
 drain_taken : (a mask n : ℕ) (line : List ℕ) (b : Body) → Taken kinds.Drain line (a ∷ mask ∷ n ∷ []) b
@@ -307,9 +312,9 @@ refill_taken : (a : ℕ) (line : List ℕ) (b : Body) → Taken kinds.Refill lin
 refill_taken a line b fits lines e =
     let long = lines.count_is in
     let whole : whole_line line ≡ Some line =
-        ap (λ (t : Bool). cond {A = Option (List ℕ)} t None (Some (take 64 line))) (le-ltb (length line) 64 (omega arith)) ∙ ap (λ (t : List ℕ). Some t) (take_all 64 line (omega arith)) in
+    ap (λ (t : Bool). cond {A = Option (List ℕ)} t None (Some (take 64 line))) (le-ltb (length line) 64 (omega arith)) ∙ ap (λ (t : List ℕ). Some t) (take_all 64 line (omega arith)) in
     some_body (Refill a line) b (λ (b : Body). Says b kinds.Refill (a ∷ []) line) (ap (option_and_then (λ (xs : List ℕ). Some (Refill a xs))) (sym whole) ∙ e)
-      (record { kind_is = refl; fits = (fits.each.0, lines); numbers_are = refl; line_is = refl })
+    (record { kind_is = refl; fits = (fits.each.0, lines); numbers_are = refl; line_is = refl })
 
 beat_taken : (line : List ℕ) (b : Body) → Taken kinds.Beat line [] b
 beat_taken line b fits lines e =
@@ -349,12 +354,12 @@ lawful_cases last f b r fits says below true et e =
     let made : Record = record { stamp = last + f.later; hart = f.hart; body = b } in
     let back : f.later ≡ last + f.later - last = omega arith in
     let form_is : f ≡ form_of last made =
-        ap (λ (k : Kind). record { kind = k; hart = f.hart; later = f.later; numbers = f.numbers; line = f.line }) (sym says.kind_is)
-        ∙ ap (λ (n : ℕ). record { kind = kind_of_body b; hart = f.hart; later = n; numbers = f.numbers; line = f.line }) back
-        ∙ ap (λ (ns : List ℕ). record { kind = kind_of_body b; hart = f.hart; later = last + f.later - last; numbers = ns; line = f.line }) (sym says.numbers_are)
-        ∙ ap (λ (bs : List ℕ). record { kind = kind_of_body b; hart = f.hart; later = last + f.later - last; numbers = number_fields b; line = bs }) (sym says.line_is) in
+    ap (λ (k : Kind). record { kind = k; hart = f.hart; later = f.later; numbers = f.numbers; line = f.line }) (sym says.kind_is)
+    ∙ ap (λ (n : ℕ). record { kind = kind_of_body b; hart = f.hart; later = n; numbers = f.numbers; line = f.line }) back
+    ∙ ap (λ (ns : List ℕ). record { kind = kind_of_body b; hart = f.hart; later = last + f.later - last; numbers = ns; line = f.line }) (sym says.numbers_are)
+    ∙ ap (λ (bs : List ℕ). record { kind = kind_of_body b; hart = f.hart; later = last + f.later - last; numbers = number_fields b; line = bs }) (sym says.line_is) in
     some_body made r (IsSaid last f) e
-      (record { follows = record { fits = record { stamp = below; hart = fits.hart; body = says.fits }; lawful = et; stamp = omega arith }; form_is = form_is })
+    (record { follows = record { fits = record { stamp = below; hart = fits.hart; body = says.fits }; lawful = et; stamp = omega arith }; form_is = form_is })
 lawful_cases last f b r fits says below false et e = absurd cc
 
 body_cases : (last : ℕ) (f : Form) (r : Record) → FitsForm f → last + f.later < 2 ^ 64 → (o : Option Body) → body_at f.kind (padded f.numbers) f.line ≡ o
@@ -365,7 +370,7 @@ body_cases last f r fits below None eo e = absurd cc
 
 stamp_cases : (last : ℕ) (f : Form) (r : Record) → FitsForm f → (t : Bool) → ltb (last + f.later) (2 ^ 64) ≡ t
     → option_and_then (λ (stamp : ℕ). option_and_then (λ (b : Body). if_lawful (record { stamp = stamp; hart = f.hart; body = b })) (body_at f.kind (padded f.numbers) f.line))
-      (cond {A = Option ℕ} t (Some (last + f.later)) None) ≡ Some r → IsSaid last f r
+    (cond {A = Option ℕ} t (Some (last + f.later)) None) ≡ Some r → IsSaid last f r
 stamp_cases last f r fits true et e = body_cases last f r fits (ltb-true (last + f.later) (2 ^ 64) et) (body_at f.kind (padded f.numbers) f.line) refl e
 stamp_cases last f r fits false et e = absurd cc
 

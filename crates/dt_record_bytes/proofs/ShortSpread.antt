@@ -1,5 +1,6 @@
 -- A line from the bytes whose mask bit is set, and back.
 use Rattle.std.proofs.Common.{◌≡◌, ℕ, zero, suc, ◌+◌, ◌-◌, ◌*◌, ◌/◌, ◌%◌, ◌^◌, ◌<◌, ◌≤◌, Bool, true, false, cond, eqb, List, [], ◌∷◌, ◌++◌, length, take, refl, sym, ap, subst, ◌∙◌, arith}
+use lib.Count.{ones}
 use Rattle.std.specs.List.{AllByRecursion}
 use Rattle.std.specs.Prelude.{count_ones, ◌||◌}
 use Rattle.std.proofs.lemmas.Bool.{eqb-true, eqb-false, and_parts}
@@ -26,6 +27,7 @@ is_done bytes i bits rest total all le so_far =
 -- ---- laws of a whole line
 
 one_bit : (n : ℕ) → n < 2 → count_ones n ≡ n
+unfolding ones
 one_bit zero lt = refl
 one_bit (suc zero) lt = refl
 one_bit (suc (suc n)) lt = absurd (omega arith)
@@ -42,6 +44,7 @@ half_below n mask lt =
     omega arith
 
 none_left : (mask : ℕ) → mask < 2 ^ 0 → count_ones mask ≡ 0
+unfolding ones
 none_left mask lt = ap count_ones (let e : mask ≡ 0 = omega arith in e)
 
 length_masked : (b : ℕ) (others : List ℕ) (bit : ℕ) → (t : Bool) → eqb bit 1 ≡ t → bit < 2 → length (cond t (b ∷ []) [] ++ others) ≡ length others + bit
