@@ -9,3 +9,4 @@ pub mod ShortSpread
 pub mod ShortPresence
 pub mod ShortRecords
 pub mod ShortAnswers
+pub mod ShortLengths

@@ -21,7 +21,7 @@ is_form text read piece =
     let r = to_form text read piece in
     (r.form, r.fits, r.text_is)
 
-form_text : (f : Form) (text : List ℕ) → FitsForm f → text ≡ form_bytes f → ReadText text (read_of_form f)
+pub form_text : (f : Form) (text : List ℕ) → FitsForm f → text ≡ form_bytes f → ReadText text (read_of_form f)
 form_text f text fits e = subst (λ (t : List ℕ). ReadText t (read_of_form f)) (sym e) (from_form f fits)
 
 -- ---- Got
@@ -58,7 +58,7 @@ read_spelled last bytes r rest fits starts =
     let piece = form_text f (short_bytes last r) (form_fits last r starts.follows) (spelling_is last r) in
     Reads-done ReadText Read-free bytes (short_bytes last r) rest (read_of_form f) piece starts.spelled (read_at bytes) (read_reads bytes fits)
 
-got_back : (last : ℕ) (bytes : List ℕ) (r : Record) (rest : List ℕ) → IsBytes bytes → StartsWith last bytes r rest → decoded_at last bytes ≡ answers.Got r (length (short_bytes last r))
+pub got_back : (last : ℕ) (bytes : List ℕ) (r : Record) (rest : List ℕ) → IsBytes bytes → StartsWith last bytes r rest → decoded_at last bytes ≡ answers.Got r (length (short_bytes last r))
 unfolding decoded_at
 got_back last bytes r rest fits starts =
     let len : length bytes - length rest ≡ length (short_bytes last r) = omega (arith, ap length starts.spelled, length-append (short_bytes last r) rest) in

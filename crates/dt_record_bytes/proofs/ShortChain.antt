@@ -20,7 +20,7 @@ use Rattle.dt_record_bytes.proofs.ShortLists.{FieldsText, PaddedText, Padded-fre
 abbrev made : Kind → ℕ → ℕ → List ℕ → List ℕ → Read
 made kind hart later numbers line = record { kind = kind; hart = hart; later = later; numbers = numbers; line = line }
 
-abbrev groups : Kind → ℕ
+abbrev pub groups : Kind → ℕ
 groups kind = (field_count kind + 7) / 8
 
 abbrev LineStep : Kind → ℕ → ℕ → List ℕ → List ℕ → Read → Type 0
@@ -172,7 +172,7 @@ few_groups kinds.Drain = omega arith
 few_groups kinds.Refill = omega arith
 few_groups kinds.Beat = omega arith
 
-presence_spelled : (kind : Kind) (numbers : List ℕ) → length numbers ≡ field_count kind → presence_bytes numbers ≡ low_bytes (groups kind) (presence numbers)
+pub presence_spelled : (kind : Kind) (numbers : List ℕ) → length numbers ≡ field_count kind → presence_bytes numbers ≡ low_bytes (groups kind) (presence numbers)
 presence_spelled kind numbers long =
     ap (λ (n : ℕ). take ((n + 7) / 8) (word (presence numbers))) long ∙ low_of_word (groups kind) (presence numbers) (few_groups kind)
 

@@ -14,6 +14,9 @@ use crate::varints::push_varint;
 use dt_record::{Record, lawful, tag_of};
 use std::alloc::AllocError;
 
+/// The length of the longest form: that of a record of all registers.
+pub const LONGEST_FORM: usize = 336;
+
 /// One bit for each number: whether it isn't 0. The first number has the lowest bit.
 fn presence_of(numbers: &[u64]) -> u32
     requires { length numbers.now ≤ 32 }
@@ -121,6 +124,13 @@ pub fn decode2(b: &[u8], last: u64) -> Decoded
     ensures short { (result ≡ Decoded.Short) ↔ IsUnfinished b.now }
     // Bad: neither of both.
     ensures bad { (at : ℕ) → (result ≡ Decoded.Bad at) ↔ IsBad last b.now at }
+
+    // How many bytes a record takes, and at most how many are Short.
+    ensures got_len { (event : Record) (len : ℕ) → result ≡ Decoded.Got event len → (3 ≤ len) × (len ≤ length b.now) × (len ≤ LONGEST_FORM) }
+    ensures short_len { result ≡ Decoded.Short → length b.now < LONGEST_FORM }
+    // Short: no record stands at the front. Bad: none does, whatever follows.
+    ensures not_yet { result ≡ Decoded.Short → (event : Record) (rest : List ℕ) → StartsWith last b.now event rest → ⊥ }
+    ensures for_good { (at : ℕ) → result ≡ Decoded.Bad at → (more : List ℕ) (event : Record) (rest : List ℕ) → StartsWith last (b.now ++ more) event rest → ⊥ }
 {
     decoded(b, last)
 }
