@@ -1,0 +1,11 @@
+//! The bytes of one probe record: its spelling in a file of version 1, and what bytes spell.
+#![tactic(auto)]
+
+mod decoded;
+mod wide;
+mod wide_bounds;
+mod wide_reading;
+mod wide_writing;
+
+pub use decoded::Decoded;
+pub use wide::{decode, encode};
