@@ -1,1 +1,5 @@
+pub mod Answering
+pub mod Apart
+pub mod Bounds
 pub mod Fields
+pub mod Lengths

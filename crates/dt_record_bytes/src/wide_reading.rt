@@ -8,6 +8,7 @@ ghost use Rattle.dt_record_bytes.specs.WideAnswer.{wide_length, body_bytes_with,
 use dt_record::{Body, Record, Retire};
 
 /// A record's fields as they stand in bytes, whatever bounds they break.
+#[derive(Clone, Copy)]
 pub(crate) struct Fields {
     pub(crate) event: Record,
     /// The byte for whether an atomic wrote, which may be none that a record has; else 0.
