@@ -42,7 +42,7 @@ spelled_of_fields bytes r w rest h unbroken = record {
   spelled = h.spelled ∙ ap (λ (n : ℕ). wide_bytes_with n r ++ rest) (byte_of_unbroken r w h.wrote unbroken) ∙ ap (λ (z : List ℕ). z ++ rest) (same_bytes r);
 }
 
-length_of_spelling : (r : Record) → FitsRecord r → wide_length (tag_number r.body) ≡ Some (length (wide_bytes r))
+pub length_of_spelling : (r : Record) → FitsRecord r → wide_length (tag_number r.body) ≡ Some (length (wide_bytes r))
 length_of_spelling r fits = wide_length_is r (wrote_byte_of r.body) fits ∙ ap (λ (z : List ℕ). Some (length z)) (same_bytes r)
 
 some_is_one : (m n : ℕ) → Some m ≡ Some n → m ≡ n

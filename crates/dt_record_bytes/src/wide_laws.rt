@@ -1,9 +1,10 @@
 ghost use Rattle.std.specs.Prelude.{◌≡◌, ◌<◌, ◌≤◌, ◌^◌, ◌++◌, ℕ, List, length};
 ghost use Rattle.dt_record.specs.declared.records.Record.{Record};
 ghost use Rattle.dt_record.specs.Lawful.{FitsRetire, FitsList, FitsBody, FitsRecord, IsLawful};
+ghost use Rattle.dt_record.specs.Tags.{tag_number};
 ghost use Rattle.dt_record.specs.Spelling.{wide_bytes, end_bytes};
 ghost use Rattle.dt_record_bytes.specs.declared.decoded.Decoded.{Decoded};
-ghost use Rattle.dt_record_bytes.specs.WideAnswer.{IsWideAnswer};
+ghost use Rattle.dt_record_bytes.specs.WideAnswer.{IsWideAnswer, wide_length};
 
 use dt_record::{Body, Record, Retire};
 
@@ -16,10 +17,10 @@ pub fn one_spelling()
         → end_bytes m ++ x ≡ end_bytes n ++ y → (m ≡ n) × (x ≡ y) }
     ensures apart { (r : Record) (count : ℕ) (x y : List ℕ) → FitsRecord r
         → wide_bytes r ++ x ≡ end_bytes count ++ y → ⊥ }
-    ensures lengths { (r : Record) → FitsRecord r
+    ensures lengths { (r : Record) → FitsRecord r → wide_length (tag_number r.body) ≡ Some (length (wide_bytes r)) }
+    ensures usual { (r : Record) → FitsRecord r
         → (10 ≤ length (wide_bytes r)) × (length (wide_bytes r) ≤ 266) }
-{
-}
+{}
 
 /// A law: the answer to what `encode` wrote is the record, whatever follows it.
 pub fn read_back(event: &Record)
@@ -102,15 +103,17 @@ fn fits_body(body: &Body)
 fn fits_retire(retire: &Retire)
     ensures { FitsRetire retire.now }
 {
-    let _numbers = (retire.pc, retire.bits, retire.value);
+    let Retire {
+        pc: _pc,
+        bits: _bits,
+        value: _value,
+    } = *retire;
 }
 
 fn fits_doubles(numbers: &[u64])
     ensures { FitsList (length numbers.now) (2 ^ 64) numbers.now }
-{
-}
+{}
 
 fn fits_line(bytes: &[u8])
     ensures { FitsList (length bytes.now) (2 ^ 8) bytes.now }
-{
-}
+{}

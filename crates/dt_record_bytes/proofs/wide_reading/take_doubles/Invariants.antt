@@ -8,5 +8,5 @@ abbrev pub invariant-loop-number : goal.invariant-loop-number
 invariant-loop-number l = record {
   spelled : l.bytes ≡ flat_map double (take l.number-index l.numbers) ++ l.rest;
   count : length l.rest + 8 * l.number-index ≡ length l.bytes;
-  fits : (k : ℕ) → k < l.number-index → get_or l.numbers k 0 < 2 ^ 64
+  fits : (k : ℕ) → k < l.number-index → get_or l.numbers k 0 < 2 ^ 64;
 }
