@@ -1,6 +1,7 @@
 use crate::{Decoded, decode2, encode2, one_short_spelling, short_front, short_read_back};
 use dt_record::{Body, Record, Retire, lawful};
 use std::alloc::Global;
+use std::process::Abort;
 use std::test::Fail;
 
 const ADDI: Retire = Retire {
@@ -100,10 +101,16 @@ fn store() -> Record {
 }
 
 /// Written after the last stamp, the record is these bytes, and is read back from them.
-fn both_ways(rt: &HostRuntime, event: Record, last: u64, text: &[u8]) -> Result<(), Fail> {
+fn both_ways(
+    rt: &impl Abort,
+    alloc: Global,
+    event: Record,
+    last: u64,
+    text: &[u8],
+) -> Result<(), Fail> {
     assert!(rt; lawful(&event));
     assert!(rt; last <= event.stamp);
-    let mut out = Vec::new(rt.alloc());
+    let mut out = Vec::new(alloc);
     encode2(&event, last, &mut out)?;
     assert_eq!(rt; out.as_slice(), text);
     short_read_back(&event, last);
@@ -127,7 +134,7 @@ fn a_commit(rt: HostRuntime) -> Result<(), Fail> {
     assert_eq!(rt; decode2(&text, 0), Decoded::Bad { at: 14 });
     let mut text = Vec::from_slice(rt.alloc(), &COMMIT)?;
     text.push(5)?;
-    both_ways(&rt, commit(), 0, &text)
+    both_ways(&rt, rt.alloc(), commit(), 0, &text)
 }
 
 #[test]
@@ -138,20 +145,27 @@ fn the_greatest_numbers(rt: HostRuntime) -> Result<(), Fail> {
     text.extend_from_slice(&GREATEST)?;
     text.extend_from_slice(&GREATEST)?;
     text.extend_from_slice(&GREATEST)?;
-    both_ways(&rt, last_trap(), 0, &text)
+    both_ways(&rt, rt.alloc(), last_trap(), 0, &text)
 }
 
 #[test]
 fn small_numbers(rt: HostRuntime) -> Result<(), Fail> {
-    both_ways(&rt, at_nine(Body::Beat), 9, &[10, 7, 0])?;
+    both_ways(&rt, rt.alloc(), at_nine(Body::Beat), 9, &[10, 7, 0])?;
     both_ways(
         &rt,
+        rt.alloc(),
         at_nine(Body::Regs { pc: 0, x: [0; 31] }),
         8,
         &[3, 7, 1, 0, 0, 0, 0],
     )?;
-    both_ways(&rt, csrs(), 0, &[4, 7, 9, 1, 0, 2, 3, 0x80, 1])?;
-    both_ways(&rt, store(), 0, &[6, 7, 9, 0x0b, 1, 3, 0x80, 0x80, 1])
+    both_ways(&rt, rt.alloc(), csrs(), 0, &[4, 7, 9, 1, 0, 2, 3, 0x80, 1])?;
+    both_ways(
+        &rt,
+        rt.alloc(),
+        store(),
+        0,
+        &[6, 7, 9, 0x0b, 1, 3, 0x80, 0x80, 1],
+    )
 }
 
 #[test]
@@ -159,15 +173,17 @@ fn memory(rt: HostRuntime) -> Result<(), Fail> {
     let load_text = [
         5, 7, 9, 0x17, 0x80, 0x80, 0x80, 0x80, 8, 0x93, 0x81, 0xc0, 2, 5, 0x7f,
     ];
-    both_ways(&rt, load(), 0, &load_text)?;
+    both_ways(&rt, rt.alloc(), load(), 0, &load_text)?;
     both_ways(
         &rt,
+        rt.alloc(),
         atomic(),
         0,
         &[7, 7, 9, 0x3a, 3, 0x80, 0x80, 0x80, 0x80, 8, 4, 1],
     )?;
     both_ways(
         &rt,
+        rt.alloc(),
         drain(),
         0,
         &[8, 7, 9, 7, 0x80, 0x80, 0x80, 0x80, 8, 5, 1, 0xaa, 0xbb],
@@ -183,7 +199,7 @@ fn a_whole_line(rt: HostRuntime) -> Result<(), Fail> {
         line: 0x8000_0000,
         bytes,
     };
-    both_ways(&rt, at_nine(refill), 0, &text)
+    both_ways(&rt, rt.alloc(), at_nine(refill), 0, &text)
 }
 
 #[test]
