@@ -1,0 +1,3 @@
+pub mod HartActions
+pub mod Meaning
+pub mod Run

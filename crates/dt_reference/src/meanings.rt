@@ -1,0 +1,25 @@
+ghost use Rattle.std.specs.Prelude.{◌≡◌, IsTrue, IfSome};
+ghost use Rattle.dt_decode.specs.Decoded.{IsDecoded};
+ghost use Rattle.dt_record.specs.Lawful.{is_instruction};
+ghost use Rattle.dt_step.specs.Plans.{HasEvenTarget};
+ghost use Rattle.dt_reference.specs.Meaning.{meaning_of};
+
+use dt_decode::{Instr, decode};
+use dt_rvc::expand;
+use dt_step::decoded_targets_are_even;
+
+/// What an instruction as fetched means, where it means something. A 16-bit instruction has its
+/// upper half zero.
+pub fn meaning(bits: u32) -> Option<Instr>
+    requires { IsTrue (is_instruction bits) }
+    ensures meaning { result ≡ meaning_of bits }
+    ensures well_formed { IfSome result IsDecoded }
+    ensures even { IfSome result HasEvenTarget }
+{
+    decoded_targets_are_even();
+    if bits % 4 == 3 {
+        decode(bits)
+    } else {
+        decode(expand(bits as u16)?)
+    }
+}
