@@ -1,5 +1,5 @@
 -- The number fields that a loop has read.
-use Rattle.std.proofs.Common.{◌≡◌, ℕ, suc, ◌+◌, ◌-◌, ◌/◌, ◌%◌, ◌<◌, ◌≤◌, Bool, eqb, List, [], ◌∷◌, ◌++◌, length, take, drop, set, replicate, Result, Ok, Err, refl, sym, ap, ◌∙◌, arith}
+use Rattle.std.proofs.Common.{◌≡◌, ℕ, suc, ◌+◌, ◌-◌, ◌/◌, ◌%◌, ◌<◌, ◌≤◌, eqb, List, [], ◌∷◌, ◌++◌, length, take, drop, set, replicate, Result, Ok, Err, refl, sym, ap, ◌∙◌, arith}
 use Rattle.std.proofs.lemmas.List.{append_assoc, append-nil, length-take-le, take-append-drop, drop-set-lt, drop-drop, drop-replicate}
 use Rattle.dt_record_bytes.specs.declared.short_pieces.Stop.{Stop}
 use Rattle.dt_record_bytes.specs.ShortReading.{◌>>=◌, field_at, fields_at, padded, padded_at}

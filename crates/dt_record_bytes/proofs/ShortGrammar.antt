@@ -1,8 +1,8 @@
 -- A piece at the front of some bytes, and pieces one after another: what was read, what lacks bytes
 -- and where the bytes go wrong, each exactly.
-use Rattle.std.proofs.Common.{◌≡◌, ℕ, ◌+◌, ◌<◌, suc, get_or, List, [], ◌∷◌, ◌++◌, length, Result, Ok, Err, refl, sym, ap, subst, ◌∙◌, arith}
+use Rattle.std.proofs.Common.{◌≡◌, ℕ, ◌+◌, ◌<◌, suc, get_or, List, [], ◌∷◌, ◌++◌, length, Result, Ok, Err, refl, sym, ap, subst, ◌∙◌}
 use Rattle.std.specs.List.{AllByRecursion}
-use Rattle.std.proofs.lemmas.List.{append_assoc, append-nil, append_cancel_left, length-append}
+use Rattle.std.proofs.lemmas.List.{append_assoc, append-nil, append_cancel_left}
 use Rattle.dt_record_bytes.specs.declared.short_pieces.Stop.{Stop}
 use Rattle.dt_record_bytes.specs.declared.short_pieces.Stop.TheVariants.{Short, Bad}
 use Rattle.dt_record_bytes.specs.ShortReading.{◌>>=◌}

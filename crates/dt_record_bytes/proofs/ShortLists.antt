@@ -1,16 +1,15 @@
 -- The number fields and the line of a form.
-use Rattle.std.proofs.Common.{◌≡◌, ℕ, zero, suc, ◌+◌, ◌-◌, ◌*◌, ◌/◌, ◌%◌, ◌^◌, ◌<◌, ◌≤◌, Bool, true, false, cond, eqb, ltb, not, List, [], ◌∷◌, ◌++◌, length, take, drop, replicate, Result, Ok, Err, refl, sym, ap, subst, ◌∙◌, arith}
-use Rattle.std.specs.List.{flat_map, AllByRecursion}
+use Rattle.std.proofs.Common.{◌≡◌, ℕ, zero, suc, ◌+◌, ◌-◌, ◌*◌, ◌/◌, ◌%◌, ◌^◌, ◌<◌, ◌≤◌, Bool, true, false, cond, eqb, ltb, not, List, [], ◌∷◌, ◌++◌, length, take, drop, replicate, Ok, Err, refl, sym, ap, subst, ◌∙◌, arith}
+use Rattle.std.specs.List.{flat_map}
 use Rattle.std.proofs.lemmas.Bool.{eqb-true, eqb-false, ltb-true, ltb-false}
-use Rattle.std.proofs.lemmas.List.{append_assoc, append-nil, length-append, length-take-le, take-append-drop, take_at, length-replicate}
+use Rattle.std.proofs.lemmas.List.{append-nil, length-append, length-take-le, take-append-drop, take_at, length-replicate}
 use Rattle.std.proofs.lemmas.Nat.{pow-add}
 use Rattle.std.proofs.lemmas.List.Concat.{flat_map-cons}
 use Rattle.dt_record.specs.Lawful.{FitsList}
-use Rattle.dt_record.specs.Spelling.{varint, present_bytes, presence}
-use Rattle.dt_record_bytes.specs.declared.short_pieces.Stop.{Stop}
-use Rattle.dt_record_bytes.specs.declared.short_pieces.Stop.TheVariants.{Short, Bad}
-use Rattle.dt_record_bytes.specs.ShortReading.{◌>>=◌, bad, field_at, fields_at, padded, padded_at, line_at}
-use Rattle.dt_record_bytes.proofs.ShortGrammar.{IsBytes, IsBytes-back, IsBytes-front, Reads, Takes, Lacks, Breaks, IsFree, IsInhabited, Then, Ends, Ends-reads, Ends-free, Ends-inhabited, Then-free, Then-inhabited, Then-reads, Reads-same, free-same, same_back}
+use Rattle.dt_record.specs.Spelling.{present_bytes, presence}
+use Rattle.dt_record_bytes.specs.declared.short_pieces.Stop.TheVariants.{Short}
+use Rattle.dt_record_bytes.specs.ShortReading.{◌>>=◌, field_at, fields_at, padded, padded_at, line_at}
+use Rattle.dt_record_bytes.proofs.ShortGrammar.{IsBytes, IsBytes-back, IsBytes-front, Reads, IsFree, IsInhabited, Then, Ends, Ends-reads, Ends-free, Ends-inhabited, Then-free, Then-inhabited, Then-reads, Reads-same, free-same}
 use Rattle.dt_record_bytes.proofs.ShortVarint.{FieldText, Field-free, Field-inhabited, field_reads}
 
 -- so many numbers with these presence bits

@@ -1,22 +1,21 @@
 -- The record that a form says, and the form of a record.
-use Rattle.std.proofs.Common.{◌≡◌, ℕ, zero, suc, ◌+◌, ◌-◌, ◌*◌, ◌^◌, ◌<◌, ◌≤◌, Bool, true, false, cond, eqb, ltb, not, List, [], ◌∷◌, ◌++◌, length, take, drop, get_or, replicate, Option, Some, None, refl, sym, ap, subst, ◌∙◌, arith}
+use Rattle.std.proofs.Common.{◌≡◌, ℕ, zero, suc, ◌+◌, ◌-◌, ◌^◌, ◌<◌, Bool, true, false, cond, eqb, ltb, not, List, [], ◌∷◌, ◌++◌, length, take, drop, get_or, replicate, Option, Some, None, refl, sym, ap, subst, ◌∙◌, arith}
 use Rattle.std.specs.Option.{option_and_then}
-use Rattle.std.specs.List.{AllByRecursion, flat_map}
+use Rattle.std.specs.List.{flat_map}
 use Rattle.std.specs.Prelude.{count_ones, ◌&&◌}
 use Rattle.std.proofs.lemmas.Bool.{ltb-true, lt-ltb, le-ltb, eqb-true, and_parts}
 use Rattle.std.proofs.lemmas.List.{take_at, take_all}
-use Rattle.std.proofs.lemmas.Option.{cond_some}
 use Rattle.dt_record.specs.declared.records.Record.{Record}
 use Rattle.dt_record.specs.declared.records.Retire.{Retire}
 use Rattle.dt_record.specs.declared.records.Body.{Body}
 use Rattle.dt_record.specs.declared.records.Body.TheVariants.{Commit, Trap, Regs, Csrs, Load, Store, Atomic, Drain, Refill, Beat}
-use Rattle.dt_record.specs.Lawful.{FitsRetire, FitsList, FitsBody, FitsRecord, is_lawful, is_masked, is_ram_line}
+use Rattle.dt_record.specs.Lawful.{FitsRetire, FitsList, FitsBody, is_lawful, is_masked, is_ram_line}
 use Rattle.dt_record.specs.Spelling.{flag, varint, presence_bytes, present_bytes, number_fields, line_bytes, masked_bytes, short_bytes}
 use Rattle.dt_record.specs.Tags.{tag_number}
 use Rattle.dt_record_bytes.specs.declared.short_kinds.Kind.{Kind}
 use Rattle.dt_record_bytes.specs.declared.short_kinds.Kind.TheVariants as kinds
 use Rattle.dt_record_bytes.specs.ShortForms.{kind_number, field_count, line_count, Form, form_bytes, FitsForm, MayFollow}
-use Rattle.dt_record_bytes.specs.ShortReading.{Read, padded, below, flag_at, whole_line, spread, retire_at, atomic_at, body_at, if_lawful, record_at}
+use Rattle.dt_record_bytes.specs.ShortReading.{padded, below, flag_at, whole_line, spread, retire_at, body_at, if_lawful, record_at}
 use Rattle.dt_record_bytes.proofs.ShortSpread.{masked_count, masked_each, spread_length, spread_each, spread_back, masked_back}
 use Rattle.dt_record_bytes.proofs.ShortChain.{read_of_form}
 

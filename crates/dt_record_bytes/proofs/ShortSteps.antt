@@ -1,9 +1,9 @@
 -- One step of what is read or written by groups, at the bytes that the code sees.
 use Rattle.std.proofs.Common.{◌≡◌, ℕ, zero, suc, ◌+◌, ◌-◌, ◌*◌, ◌/◌, ◌%◌, ◌^◌, ◌<◌, ◌≤◌, Bool, true, false, cond, eqb, ltb, not, List, [], ◌∷◌, ◌++◌, length, take, drop, get_or, Result, Ok, Err, refl, sym, ap, subst, ◌∙◌, arith}
-use Rattle.std.proofs.lemmas.Bool.{eqb-true, eqb-false, ltb-true, ltb-false, lt-ltb, le-ltb, eq-eqb, ne_eqb, not-false}
-use Rattle.std.proofs.lemmas.Nat.{pow-add, pow_pos, one_shl}
+use Rattle.std.proofs.lemmas.Bool.{eqb-true, lt-ltb, le-ltb, ne_eqb, not-false}
+use Rattle.std.proofs.lemmas.Nat.{pow-add, pow_pos}
 use Rattle.std.proofs.Math.Pow.{pow_mono}
-use Rattle.std.proofs.lemmas.List.{take_all, append_assoc, append-nil}
+use Rattle.std.proofs.lemmas.List.{take_all, append_assoc}
 use Rattle.dt_record.specs.Spelling.{varint, varint_within}
 use Rattle.dt_record_bytes.specs.declared.short_pieces.Stop.{Stop}
 use Rattle.dt_record_bytes.specs.declared.short_pieces.Stop.TheVariants.{Short, Bad}

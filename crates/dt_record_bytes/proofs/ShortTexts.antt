@@ -1,20 +1,14 @@
 -- The other pieces of a form.
-use Rattle.std.proofs.Common.{◌≡◌, ℕ, zero, suc, ◌+◌, ◌-◌, ◌*◌, ◌/◌, ◌%◌, ◌^◌, ◌<◌, ◌≤◌, Bool, true, false, cond, eqb, ltb, not, Option, Some, None, List, [], ◌∷◌, ◌++◌, length, take, drop, replicate, Result, Ok, Err, refl, sym, ap, subst, ◌∙◌, arith, inl, inr}
-use Rattle.std.specs.List.{flat_map, AllByRecursion}
-use Rattle.std.proofs.lemmas.Bool.{eqb-true, eqb-false, ltb-true, ltb-false, lt-ltb, le-ltb, eq-eqb, ne_eqb, cases_lt}
+use Rattle.std.proofs.Common.{◌≡◌, ℕ, zero, suc, ◌+◌, ◌-◌, ◌*◌, ◌/◌, ◌%◌, ◌^◌, ◌<◌, ◌≤◌, Bool, true, false, cond, eqb, ltb, Option, Some, None, List, [], ◌∷◌, ◌++◌, Ok, refl, sym, ap, ◌∙◌, arith, inl, inr}
+use Rattle.std.proofs.lemmas.Bool.{eqb-true, ltb-true, ltb-false, cases_lt}
 use Rattle.std.proofs.lemmas.Nat.{pow-add, pow_pos, pow_below}
-use Rattle.std.proofs.lemmas.List.{append_assoc, append-nil, length-append, length-take-le, take-append-drop, take_at, length-replicate}
 use Rattle.std.proofs.Math.Pow.{pow_mono}
-use Rattle.dt_record.specs.Lawful.{FitsList}
-use Rattle.dt_record.specs.Spelling.{varint, present_bytes, presence}
+use Rattle.dt_record.specs.Spelling.{presence}
 use Rattle.dt_record_bytes.specs.declared.short_kinds.Kind.{Kind}
 use Rattle.dt_record_bytes.specs.declared.short_kinds.Kind.TheVariants as kinds
-use Rattle.dt_record_bytes.specs.declared.short_pieces.Stop.{Stop}
-use Rattle.dt_record_bytes.specs.declared.short_pieces.Stop.TheVariants.{Short, Bad}
 use Rattle.dt_record_bytes.specs.ShortForms.{kind_number}
-use Rattle.dt_record_bytes.specs.ShortReading.{◌>>=◌, bad, kind_with, kind_or_bad, kind_at, byte_from, presence_at, field_at, fields_at, padded, padded_at, line_at}
-use Rattle.dt_record_bytes.proofs.ShortGrammar.{IsBytes, IsBytes-back, IsBytes-front, Reads, Takes, Lacks, Breaks, IsFree, IsInhabited, Behind, Then, Ends, Ends-reads, Ends-free, Ends-inhabited, Then-free, Then-inhabited, Then-reads, Reads-same, Reads-cons, Breaks-first, free-same, same_back}
-use Rattle.dt_record_bytes.proofs.ShortVarint.{FieldText, Field-free, Field-inhabited, field_reads}
+use Rattle.dt_record_bytes.specs.ShortReading.{◌>>=◌, bad, kind_with, kind_or_bad, kind_at, byte_from, presence_at}
+use Rattle.dt_record_bytes.proofs.ShortGrammar.{IsBytes, Reads, IsFree, IsInhabited, Behind, Reads-cons, Breaks-first}
 
 -- ---- the tag
 

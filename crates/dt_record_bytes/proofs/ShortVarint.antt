@@ -1,12 +1,12 @@
 -- Numbers in groups of seven bits.
-use Rattle.std.proofs.Common.{◌≡◌, ℕ, zero, suc, ◌+◌, ◌-◌, ◌*◌, ◌/◌, ◌%◌, ◌^◌, ◌<◌, ◌≤◌, Bool, true, false, cond, eqb, ltb, not, List, [], ◌∷◌, ◌++◌, length, Result, Ok, Err, refl, sym, ap, subst, ◌∙◌, arith}
-use Rattle.std.proofs.lemmas.Bool.{eqb-true, eqb-false, ltb-true, ltb-false, lt-ltb, le-ltb, eq-eqb, ne_eqb}
+use Rattle.std.proofs.Common.{◌≡◌, ℕ, zero, suc, ◌+◌, ◌-◌, ◌*◌, ◌/◌, ◌%◌, ◌^◌, ◌<◌, ◌≤◌, Bool, true, false, cond, eqb, ltb, not, List, [], ◌∷◌, ◌++◌, Result, Ok, Err, refl, sym, ap, ◌∙◌, arith}
+use Rattle.std.proofs.lemmas.Bool.{eqb-true, eqb-false, ltb-true, ltb-false, le-ltb, ne_eqb}
 use Rattle.std.proofs.lemmas.Nat.{pow-add, pow_pos}
 use Rattle.dt_record.specs.Spelling.{varint, varint_within, present_bytes}
 use Rattle.dt_record_bytes.specs.declared.short_pieces.Stop.{Stop}
 use Rattle.dt_record_bytes.specs.declared.short_pieces.Stop.TheVariants.{Short, Bad}
 use Rattle.dt_record_bytes.specs.ShortReading.{◌>>=◌, bad, groups_at, later_at, field_at}
-use Rattle.dt_record_bytes.proofs.ShortGrammar.{IsBytes, Reads, Takes, Lacks, Breaks, IsFree, IsInhabited, Behind, Reads-same, Reads-cons, Breaks-first, free-same}
+use Rattle.dt_record_bytes.proofs.ShortGrammar.{IsBytes, Reads, Breaks, IsFree, IsInhabited, Behind, Reads-same, Reads-cons, Breaks-first, free-same}
 
 -- a number that isn't 0, in at most so many bytes after the first
 pub record Nonzero (more : ℕ) (text : List ℕ) (n : ℕ) : Type 0 where

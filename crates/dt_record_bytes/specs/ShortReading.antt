@@ -1,5 +1,5 @@
 -- Reading from left to right: what each piece at the front of some bytes is, or where it stops.
-use Rattle.std.specs.Prelude.{ℕ, zero, suc, ◌≡◌, ◌<◌, ◌+◌, ◌-◌, ◌*◌, ◌/◌, ◌%◌, ◌^◌, ◌==◌, Bool, true, false, not, if◌then◌else◌, Option, Some, None, Result, Ok, Err, List, [], ◌∷◌, ◌++◌, length, take, drop, replicate, nat_lt, slice_index, option_and_then}
+use Rattle.std.specs.Prelude.{ℕ, zero, suc, ◌≡◌, ◌+◌, ◌-◌, ◌*◌, ◌/◌, ◌%◌, ◌^◌, ◌==◌, Bool, true, false, not, if◌then◌else◌, Option, Some, None, Result, Ok, Err, List, [], ◌∷◌, ◌++◌, length, take, drop, replicate, nat_lt, slice_index, option_and_then}
 use Rattle.dt_record.specs.declared.records.Record.{Record}
 use Rattle.dt_record.specs.declared.records.Retire.{Retire}
 use Rattle.dt_record.specs.declared.records.Body.{Body}

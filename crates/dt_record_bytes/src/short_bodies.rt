@@ -1,6 +1,6 @@
 ghost use Rattle.std.specs.Prelude.{◌≡◌, ◌≤◌, ◌<◌, ◌+◌, ◌^◌, ◌++◌, ◌∷◌, length, take, OnOk, if◌then◌else◌, []};
 ghost use Rattle.dt_record.specs.Spelling.{number_fields, line_bytes, masked_bytes};
-ghost use Rattle.dt_record_bytes.specs.ShortReading.{padded, below, flag_at, whole_line, next_byte, line_after, spread, retire_at, atomic_at, body_at};
+ghost use Rattle.dt_record_bytes.specs.ShortReading.{below, flag_at, next_byte, line_after, spread, retire_at, atomic_at, body_at};
 
 use crate::short_kinds::Kind;
 use dt_record::{Body, Retire};

@@ -1,4 +1,4 @@
-ghost use Rattle.std.specs.Prelude.{◌≡◌, ◌≤◌, length, slice_index};
+ghost use Rattle.std.specs.Prelude.{◌≡◌, ◌≤◌};
 ghost use Rattle.dt_record_bytes.specs.ShortForms.{field_count, line_count};
 ghost use Rattle.dt_record_bytes.specs.ShortReading.{kind_with};
 

@@ -1,5 +1,4 @@
-ghost use Rattle.std.specs.Prelude.{◌≡◌, ◌≤◌, ◌<◌, ◌+◌, ◌*◌, ◌^◌, ◌/◌, ◌++◌, length, IfOk};
-ghost use Rattle.dt_record_bytes.specs.ShortForms.{field_count};
+ghost use Rattle.std.specs.Prelude.{◌≤◌, ◌<◌, ◌+◌, ◌*◌, ◌^◌, ◌/◌, IfOk};
 ghost use Rattle.dt_record_bytes.specs.ShortReading.{Gives, kind_at, byte_from, presence_at, field_at, padded_at, line_at, read_at};
 ghost use Rattle.dt_record_bytes.specs.ShortPieces.{read_of};
 

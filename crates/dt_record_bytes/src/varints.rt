@@ -1,4 +1,4 @@
-ghost use Rattle.std.specs.Prelude.{◌≡◌, ◌≤◌, ◌<◌, ◌+◌, ◌*◌, ◌^◌, ◌++◌, length, OnOk, IfOk};
+ghost use Rattle.std.specs.Prelude.{◌≡◌, ◌≤◌, ◌<◌, ◌+◌, ◌*◌, ◌^◌, ◌++◌, OnOk, IfOk};
 ghost use Rattle.dt_record.specs.Spelling.{varint};
 ghost use Rattle.dt_record_bytes.specs.ShortReading.{Gives, is_wrong_group, groups_at, later_at};
 

@@ -1,4 +1,4 @@
-use Rattle.std.proofs.Common.{◌≡◌, ◌-◌, ◌≤◌, cond, eqb, length, get_or, ◌∙◌, ℕ, arith}
+use Rattle.std.proofs.Common.{◌≡◌, ◌-◌, ◌≤◌, cond, eqb, length, get_or, ◌∙◌, arith}
 use Rattle.dt_record_bytes.proofs.ShortPresence.{bit_is, bit_small, presence_more, bound_more}
 use Rattle.dt_record_bytes.proofs.short.presence_of.Goals as goal
 

@@ -1,4 +1,4 @@
-use Rattle.std.proofs.Common.{◌≡◌, ◌+◌, ◌-◌, ◌/◌, ◌%◌, eqb, ◌<◌, ◌≤◌, [], ◌∷◌, ◌++◌, length, take, List, ℕ, ap, sym, ◌∙◌, arith}
+use Rattle.std.proofs.Common.{◌+◌, ◌-◌, ◌/◌, ◌%◌, eqb, ◌<◌, [], ◌∷◌, ◌++◌, length, take, List, ℕ, ap, ◌∙◌, arith}
 use Rattle.std.proofs.lemmas.List.{take_more_set, length-set}
 use Rattle.dt_record_bytes.specs.ShortReading.{spread, next_byte}
 use Rattle.dt_record_bytes.proofs.ShortSpread.{goes_on, is_done}

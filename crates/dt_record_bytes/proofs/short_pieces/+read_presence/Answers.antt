@@ -1,4 +1,4 @@
-use Rattle.std.proofs.Common.{◌≡◌, ◌-◌, ◌+◌, ◌*◌, ◌^◌, ◌<◌, ◌≤◌, ◌%◌, get_or, length, Ok, Err, arith}
+use Rattle.std.proofs.Common.{◌≡◌, ◌-◌, Ok, Err, arith}
 use Rattle.std.proofs.lemmas.Result.{err_from_is_err_and}
 use Rattle.std.proofs.lemmas.Nat.{one_shl}
 use Rattle.dt_record_bytes.proofs.ShortSteps.{presence_none, presence_short, presence_past, presence_on, bits_below}

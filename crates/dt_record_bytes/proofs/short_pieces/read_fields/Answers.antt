@@ -1,8 +1,8 @@
-use Rattle.std.proofs.Common.{◌≡◌, ◌+◌, ◌<◌, ◌≤◌, length, take, List, ℕ, ap, sym, ◌∙◌, arith}
+use Rattle.std.proofs.Common.{◌<◌, length, take, ◌∙◌, arith}
 use Rattle.std.proofs.lemmas.Result.{err_from_is_err_and}
 use Rattle.std.proofs.lemmas.List.{take_more_set, length-set}
 use Rattle.dt_record_bytes.specs.ShortReading.{fields_at}
-use Rattle.dt_record_bytes.proofs.ShortFields.{with_front, goes_on, stops, is_done, padded_err, padded_ok, zeros_more}
+use Rattle.dt_record_bytes.proofs.ShortFields.{goes_on, stops, is_done, padded_err, padded_ok, zeros_more}
 use Rattle.dt_record_bytes.proofs.short_pieces.read_fields.Goals as goal
 
 pub returns-in_err-number : goal.returns-in_err-number

@@ -1,4 +1,4 @@
-use Rattle.std.proofs.Common.{◌≡◌, ◌-◌, ◌+◌, ◌*◌, ◌^◌, ◌<◌, ◌≤◌, true, false, get_or, length, Ok, Err, arith}
+use Rattle.std.proofs.Common.{◌≡◌, ◌-◌, ◌+◌, ◌*◌, ◌≤◌, true, false, Ok, Err, arith}
 use Rattle.std.proofs.lemmas.Result.{err_from_is_err_and}
 use Rattle.dt_record_bytes.specs.ShortReading.{is_wrong_group}
 use Rattle.dt_record_bytes.proofs.ShortSteps.{groups_none, groups_wrong, groups_small, groups_high, small_below, some_more, high_below, within_64}

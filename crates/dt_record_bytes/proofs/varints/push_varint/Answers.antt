@@ -1,4 +1,4 @@
-use Rattle.std.proofs.Common.{◌≡◌, ◌+◌, ◌/◌, ◌%◌, ◌++◌, List, ℕ, ap, sym, ◌∙◌, arith}
+use Rattle.std.proofs.Common.{◌+◌, ◌/◌, ◌%◌, ◌++◌, List, ℕ, ap, sym, ◌∙◌, arith}
 use Rattle.dt_record.specs.Spelling.{varint}
 use Rattle.dt_record_bytes.proofs.ShortSteps.{varint_last, varint_more, pushed}
 use Rattle.dt_record_bytes.proofs.varints.push_varint.Goals as goal
