@@ -1,0 +1,31 @@
+ghost use Rattle.std.specs.Prelude.{◌≡◌};
+
+use std::marker::Model;
+
+/// A text. A contract sees it as the list of its bytes.
+#[derive(Debug, Drop)]
+pub struct Text {
+    text: Vec<u8>,
+}
+
+impl Model for Text {
+    ghost use Rattle.std.specs.Prelude.{List, ℕ};
+
+    ghost Value = { List ℕ };
+
+    ghost view = { λ text. text.text.items };
+}
+
+impl Text {
+    pub(crate) fn of(text: Vec<u8>) -> Text
+        ensures { result ≡ text.items }
+    {
+        Text { text }
+    }
+
+    pub fn bytes(&self) -> &[u8]
+        ensures { result.now ≡ self.now }
+    {
+        self.text.as_slice()
+    }
+}
