@@ -46,12 +46,24 @@ pub record Asked : Type 0 where
   pub image : Option Text
   pub probes : Option Text
 
--- what values ask for
+-- the version to write that the values of a task give: that of `--to`, and 0 where the task has no such option
+abbrev pub to_of : Task → List Row → ℕ
+to_of Pass values = 0
+to_of Dump values = 0
+to_of Convert values = option_map_or byte_or_zero (one_of (codes "to") values) 0
+
+-- the path of an image that the values of a task give, and none where the task reads no image
+abbrev pub image_of : Task → List Row → Option Text
+image_of Pass values = first_of (codes "image") values
+image_of Dump values = None
+image_of Convert values = None
+
+-- what the values of a task ask for
 abbrev pub asked_for : Task → List Row → Asked
 asked_for task values = record {
   task = task;
-  to = option_map_or byte_or_zero (one_of (codes "to") values) 0;
-  image = first_of (codes "image") values;
+  to = to_of task values;
+  image = image_of task values;
   probes = first_of (codes "probes") values;
 }
 

@@ -1,7 +1,7 @@
 ghost use Rattle.std.specs.Prelude.{◌≡◌, false, IfErr, IfOk, Some, None, Err, codes, map, option_map};
 ghost use Rattle.std.specs.String.{string_bytes};
 ghost use Rattle.clap.specs.Words.{app_of, found_of, kind_of, rows_of, rule_of};
-ghost use Rattle.dt_words.specs.Table.{app_of_task, asked_by, asked_for, asked_of, path_rule, task_named, values_of, version_rule};
+ghost use Rattle.dt_words.specs.Table.{app_of_task, asked_by, asked_for, asked_of, image_of, path_rule, task_named, to_of, values_of, version_rule};
 
 use crate::commands::{Command, Task, WordsRefusal};
 use clap::error::ErrorKind;
@@ -93,14 +93,34 @@ fn owned(alloc: Global, text: Option<&str>) -> Result<Option<String>, AllocError
     }
 }
 
+/// The version to write that the values of a task give.
+fn version_to(task: Task, matches: &ArgMatches<'_>) -> u8
+    ensures { result ≡ to_of task (rows_of (found_of matches.now)) }
+{
+    match task {
+        Task::Pass | Task::Dump => 0,
+        Task::Convert => matches.get_one::<u8>("to").unwrap_or(0),
+    }
+}
+
+/// The path of an image that the values of a task give.
+fn image_path<'a>(task: Task, matches: &ArgMatches<'a>) -> Option<&'a str>
+    ensures { option_map (λ path. path.now) result ≡ image_of task (rows_of (found_of matches.now)) }
+{
+    match task {
+        Task::Pass => matches.get_str("image"),
+        Task::Dump | Task::Convert => None,
+    }
+}
+
 /// What the values of a task say.
 fn command_of(alloc: Global, task: Task, matches: &ArgMatches<'_>) -> Result<Command, AllocError>
     ensures { IfOk result (λ command. asked_by command ≡ asked_for task (rows_of (found_of matches.now))) }
 {
     Ok(Command {
         task,
-        to: matches.get_one::<u8>("to").unwrap_or(0),
-        image: owned(alloc, matches.get_str("image"))?,
+        to: version_to(task, matches),
+        image: owned(alloc, image_path(task, matches))?,
         probes: owned(alloc, matches.get_str("probes"))?,
     })
 }
