@@ -140,7 +140,7 @@ impl Probes for Script {
 
 const LINE: &str = "1.0.0 Commit pc=0000000080000000 bits=00500093 value=0000000000000005\n";
 
-fn script(alloc: Global, events: &[(u64, bool)], ending: Ending) -> Result<Script, Fail>
+fn stream_of(alloc: Global, events: &[(u64, bool)], ending: Ending) -> Result<Script, Fail>
     ensures { IfOk result (λ s. (s.opened ≡ false) × (s.ended ≡ None)) }
 {
     Ok(Script::new(Vec::from_slice(alloc, events)?, ending))
@@ -156,12 +156,40 @@ fn a_stream_has_its_lines(rt: HostRuntime) -> Result<(), Fail> {
         (Ending::ReadFault, 5, "READ FAULT probes\n"),
     ];
     for (ending, status, text) in ends {
-        let mut probes = script(rt.alloc(), &[(1, false)], ending)?;
+        let mut probes = stream_of(rt.alloc(), &[(1, false)], ending)?;
         let mut out = MemSink::new(rt.alloc(), 200, Vec::new(rt.alloc()))?;
         let found = dump_probes(rt.alloc(), &mut probes, &mut out);
         assert_eq!(rt; found, status, "{text}");
         assert!(rt; out.bytes().starts_with(LINE.as_bytes()));
         assert_eq!(rt; &out.bytes()[LINE.len()..], text.as_bytes(), "{text}");
+    }
+    Ok(())
+}
+
+#[test]
+fn each_hart_counts_its_own_records(rt: HostRuntime) -> Result<(), Fail> {
+    let events = [(2, false), (1, true), (1, false)];
+    let mut probes = stream_of(rt.alloc(), &events, Ending::End)?;
+    let mut out = MemSink::new(rt.alloc(), 300, Vec::new(rt.alloc()))?;
+    assert_eq!(rt; dump_probes(rt.alloc(), &mut probes, &mut out), 0);
+    let text = concat!(
+        "1.0.0 Commit pc=0000000080000000 bits=00500093 value=0000000000000005\n",
+        "1.1.0 Commit pc=0000000080000000 bits=00500093 value=0000000000000005\n",
+        "2.0.1 Commit pc=0000000080000000 bits=00500093 value=0000000000000005\n",
+        "END count=3\n",
+    );
+    assert_eq!(rt; out.bytes(), text.as_bytes());
+    Ok(())
+}
+
+#[test]
+fn a_failed_write_ends_the_text(rt: HostRuntime) -> Result<(), Fail> {
+    for (room, calls, written) in [(10, [9], 10), (200, [0], 0), (200, [1], LINE.len())] {
+        let mut probes = stream_of(rt.alloc(), &[(1, false)], Ending::End)?;
+        let fail = Vec::from_slice(rt.alloc(), &calls)?;
+        let mut out = MemSink::new(rt.alloc(), room, fail)?;
+        assert_eq!(rt; dump_probes(rt.alloc(), &mut probes, &mut out), 6);
+        assert_eq!(rt; out.bytes(), &LINE.as_bytes()[..written], "{room}");
     }
     Ok(())
 }
