@@ -1,5 +1,5 @@
 -- How a dump ends, by the answer that its stream came to.
-use Rattle.std.proofs.Common.{◌≡◌, ◌≢◌, ◌∙◌, ◌⊎◌, ℕ, List, [], ◌∷◌, ◌++◌, Option, Some, None, IfSome, IsSomeAnd, refl, sym, ap, ap₂, inl, inr, subst}
+use Rattle.std.proofs.Common.{◌≡◌, ◌≢◌, ◌∙◌, ◌⊎◌, ℕ, List, [], ◌++◌, Option, Some, None, IfSome, IsSomeAnd, refl, sym, ap, ap₂, inl, inr, subst}
 use Rattle.std.proofs.lemmas.List.{append-nil}
 use Rattle.std.specs.Option.{option_map_or}
 use Rattle.dt_source.specs.Known.{Appends}
@@ -7,7 +7,7 @@ use Rattle.dt_source.proofs.Steps.{Appends-append}
 use Rattle.dt_record.specs.declared.records.Record.{Record}
 use Rattle.dt_record.specs.declared.streams.Next.{Next}
 use Rattle.dt_record.specs.declared.streams.Next.TheVariants.{Header, Event, End, Malformed, Limit, ReadFault, OutOfMemory}
-use Rattle.dt_dump.specs.Dump.{record_lines, records_in, end_of, last_line, last_status, dump_text, dump_status, memory_line, read_fault_line, BeginsWith, IsCutShort, MayDump, AppendsPart}
+use Rattle.dt_dump.specs.Dump.{record_lines, records_in, end_of, last_line, last_status, dump_text, dump_status, memory_line, BeginsWith, IsCutShort, MayDump, AppendsPart}
 use Rattle.dt_dump.specs.Reading.{CameTo}
 use Rattle.dt_dump.proofs.Texts.{part_last}
 use Rattle.dt_dump.proofs.Underway.{told_map}

@@ -1,5 +1,5 @@
 -- A dump between two answers of its stream.
-use Rattle.std.proofs.Common.{◌≡◌, ◌∙◌, ◌<◌, ◌≤◌, ◌+◌, ◌-◌, ◌==◌, ℕ, Bool, true, false, List, [], ◌∷◌, ◌++◌, Option, Some, None, IsSome, IsSomeAnd, IfSome, is_some, length, take, filter, cond, slice_index, slice_set, suc, ◌⊎◌, ◌≢◌, refl, sym, ap, inl, inr, subst, append_assoc, add-zero, zero, arith}
+use Rattle.std.proofs.Common.{◌≡◌, ◌∙◌, ◌<◌, ◌≤◌, ◌+◌, ◌-◌, ◌==◌, ℕ, Bool, true, false, List, [], ◌∷◌, ◌++◌, Option, Some, None, IsSome, IsSomeAnd, IfSome, is_some, length, cond, slice_index, slice_set, suc, ◌⊎◌, ◌≢◌, refl, sym, ap, inl, inr, subst, append_assoc, add-zero, zero, arith}
 use Rattle.std.proofs.lemmas.Bool.{cases_eq, ne_eqb}
 use Rattle.std.proofs.lemmas.Bool.Decides.{nat_tests}
 use Rattle.std.proofs.lemmas.List.{append-nil, length-append, length-set, get_or-set_same, get_or-set_other}
@@ -13,7 +13,7 @@ use Rattle.dt_record.specs.declared.streams.Next.TheVariants.{Header, Event, End
 use Rattle.dt_record.specs.Keys.{records_of}
 use Rattle.dt_record.specs.Streams.{Progress, IsFresh, TakesHeader, TakesRecord, TakesAnswer}
 use Rattle.dt_text.specs.Line.{line_text}
-use Rattle.dt_dump.specs.Dump.{lines_after, record_lines, records_in, end_of, BeginsWith}
+use Rattle.dt_dump.specs.Dump.{lines_after, record_lines, records_in, end_of}
 use Rattle.dt_dump.specs.Reading.{CameTo}
 use Rattle.dt_dump.proofs.Texts.{record_lines-more}
 

@@ -1,5 +1,5 @@
 -- How far a stream was read. No public clause cites these words.
-use Rattle.std.specs.Prelude.{◌≡◌, Some, List, ◌++◌}
+use Rattle.std.specs.Prelude.{◌≡◌, Some, List}
 use Rattle.dt_record.specs.declared.records.Record.{Record}
 use Rattle.dt_record.specs.declared.streams.Next.{Next}
 use Rattle.dt_record.specs.declared.streams.Next.TheVariants.{Header, Event, End, Malformed, Limit, ReadFault, OutOfMemory}

@@ -1,5 +1,4 @@
-use Rattle.std.proofs.Common.{◌≡◌, ◌<◌, ◌≤◌, ℕ, List, refl, sym, subst, arith}
-use Rattle.dt_record.specs.Keys.{records_of}
+use Rattle.std.proofs.Common.{◌<◌, ℕ, List, refl, sym, subst, arith}
 use Rattle.dt_text.specs.Line.{line_text}
 use Rattle.dt_dump.specs.Dump.{AppendsPart}
 use Rattle.dt_dump.proofs.Texts.{front_of_text}
