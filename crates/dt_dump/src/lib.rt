@@ -1,0 +1,9 @@
+//! The command `dump`: the lines of the records of a stream, and how the stream ended.
+#![tactic(auto)]
+
+mod dumping;
+mod lines;
+#[cfg(test)]
+mod tests;
+
+pub use dumping::dump_probes;

@@ -1,0 +1,43 @@
+ghost use Rattle.std.specs.Prelude.{◌≡◌};
+
+use std::alloc::AllocError;
+
+/// What the program is to do.
+#[derive(Clone, Copy, Debug, PartialEq, Eq)]
+pub enum Task {
+    /// Check a probe file against the reference, on one thread: `pass IMAGE PROBES`.
+    Pass,
+    /// Print the records of a probe file: `dump PROBES`.
+    Dump,
+    /// Write a probe file in another version: `convert --to N PROBES`.
+    Convert,
+}
+
+/// What words say. A command that comes later adds the fields of its options.
+#[derive(Debug, Drop)]
+pub struct Command {
+    pub task: Task,
+    /// The version of the file that `convert` writes, 1 or 2; 0 for the other tasks.
+    pub to: u8,
+    /// The path of the memory image, where the task reads one.
+    pub image: Option<String>,
+    /// The path of the probe file, where the task reads one.
+    pub probes: Option<String>,
+}
+
+#[derive(Clone, Copy, Debug, PartialEq, Eq)]
+pub enum WordsRefusal {
+    /// The words are not in the table of commands.
+    Usage,
+    OutOfMemory,
+}
+
+impl From<AllocError> for WordsRefusal {
+    ghost use Rattle.dt_words.specs.declared.commands.WordsRefusal.TheVariants.{OutOfMemory};
+
+    ghost from_gives = { λ _ refusal. refusal ≡ OutOfMemory };
+
+    fn from(_: AllocError) -> WordsRefusal {
+        WordsRefusal::OutOfMemory
+    }
+}
