@@ -1,0 +1,5 @@
+mod Choices
+mod Floors
+mod Fronts
+mod Places
+mod Ranks

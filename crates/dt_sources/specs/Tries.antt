@@ -1,4 +1,4 @@
-use Rattle.std.specs.Prelude.{ℕ, ◌≡◌, ◌+◌, ◌/◌, ◌%◌, ◌==◌, ◌&&◌, Bool, true, not, Option, List, [], ◌∷◌, map}
+use Rattle.std.specs.Prelude.{ℕ, ◌≡◌, ◌+◌, ◌*◌, ◌==◌, ◌&&◌, Bool, true, not, Option, List, [], ◌∷◌, map}
 use Rattle.std.specs.Option.{option_map_or}
 use Rattle.dt_record.specs.declared.keys.Key.{Key}
 use Rattle.dt_record.specs.declared.accesses.LoadAsk.{LoadAsk}
@@ -23,11 +23,20 @@ tried_origin h k addr b = option_map_or (λ f. origin.Store f.seq) b.own (origin
 abbrev pub tried_rank : History → ℕ → ℕ → LoadByte → Rank
 tried_rank h k addr b = option_map_or (λ f. store_rank f.drained) b.own (source_rank (source_at h.writes k addr))
 
--- whether a byte is the wanted one and its source does not stand below the newest key
-abbrev pub is_fit_byte : History → ℕ → ℕ → ℕ → LoadByte → Bool
-is_fit_byte h k addr wanted b = (tried_byte h k addr b == wanted) && not (rank_below (tried_rank h k addr b) (source_rank b.newest))
+-- whether its source does not stand below the newest key that the hart knows for it
+abbrev pub is_kept : History → ℕ → ℕ → LoadByte → Bool
+is_kept h k addr b = not (rank_below (tried_rank h k addr b) (source_rank b.newest))
 
--- whether bytes from an address on are those of a number, the low byte first, and keep their floors
+-- the number whose bytes are found from an address on, the low byte first
+abbrev pub tried_value : History → ℕ → ℕ → List LoadByte → ℕ
+tried_value h k addr [] = 0
+tried_value h k addr (b ∷ bs) = tried_byte h k addr b + 256 * tried_value h k (addr + 1) bs
+
+-- whether that holds of all bytes from an address on
+abbrev pub are_kept : History → ℕ → ℕ → List LoadByte → Bool
+are_kept h k addr [] = true
+are_kept h k addr (b ∷ bs) = is_kept h k addr b && are_kept h k (addr + 1) bs
+
+-- whether bytes from an address on are those of a number, and none comes from below its newest key
 abbrev pub are_fit : History → ℕ → ℕ → ℕ → List LoadByte → Bool
-are_fit h k addr raw [] = raw == 0
-are_fit h k addr raw (b ∷ bs) = is_fit_byte h k addr (raw % 256) b && are_fit h k (addr + 1) (raw / 256) bs
+are_fit h k addr raw bytes = (tried_value h k addr bytes == raw) && are_kept h k addr bytes

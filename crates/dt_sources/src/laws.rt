@@ -1,16 +1,22 @@
 //! Laws of the definitions, for the crates above. The functions do nothing.
 ghost use Rattle.dt_sources.specs.Choice.{LeastChoiceIsLeast, RefusalIsExact, FrontsHaveSources, LeastChoiceGoesOn};
 
+use dt_versions::sources_rise;
+
 /// Where each load of a hart takes the least moment that fits, its moments are those of the least
 /// fitting assignment, and the other way round.
 pub fn least_choice_is_least()
     ensures { LeastChoiceIsLeast }
-{}
+{
+    sources_rise();
+}
 
 /// Where no moment fits a load after least choices, no assignment of the loads up to it fits.
 pub fn refusal_is_exact()
     ensures { RefusalIsExact }
-{}
+{
+    sources_rise();
+}
 
 /// Where some actions have no sources, no longer list of actions has any.
 pub fn fronts_have_sources()

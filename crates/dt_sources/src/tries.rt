@@ -1,8 +1,8 @@
-ghost use Rattle.std.specs.Prelude.{◌≡◌, ℕ, ◌+◌, ◌≤◌, ◌<◌, not, Some, length, slice_get};
+ghost use Rattle.std.specs.Prelude.{◌≡◌, ℕ, ◌+◌, ◌≤◌, ◌<◌, ◌==◌, Some, length, slice_get};
 ghost use Rattle.dt_record.specs.LoadSources.{rank_below};
 ghost use Rattle.dt_record.specs.declared.origins.Origin.TheVariants as origin;
 ghost use Rattle.dt_versions.specs.Laws.{source_rank};
-ghost use Rattle.dt_sources.specs.Tries.{tried_byte, tried_origin, tried_rank, is_fit_byte, are_fit};
+ghost use Rattle.dt_sources.specs.Tries.{tried_byte, tried_origin, tried_rank, tried_value, are_kept, are_fit};
 
 use dt_record::{Key, Origin};
 use dt_stores::Forward;
@@ -25,10 +25,20 @@ pub fn is_fit(m: &Moments, k: u32, addr: u64, raw: u64, bytes: &[LoadByte]) -> b
     requires before_end { addr + length bytes.now ≤ 0x8400_0000 }
     ensures { result ≡ are_fit m.now k addr raw bytes.now }
 {
+    gives_value(m, k, addr, raw, bytes) && keeps_newest(m, k, addr, bytes)
+}
+
+fn gives_value(m: &Moments, k: u32, addr: u64, raw: u64, bytes: &[LoadByte]) -> bool
+    requires within { k ≤ length m.now.writes }
+    requires in_ram { 0x8000_0000 ≤ addr }
+    requires before_end { addr + length bytes.now ≤ 0x8400_0000 }
+    ensures { result ≡ (tried_value m.now k addr bytes.now == raw) }
+{
     let mut rest = raw;
     let mut at = addr;
     for b in bytes {
-        if !is_fit_byte(m, k, at, rest % 256, b) {
+        let byte = byte_at(m, k, at, b);
+        if u64::from(byte) != rest % 256 {
             return false;
         }
         rest /= 256;
@@ -37,13 +47,20 @@ pub fn is_fit(m: &Moments, k: u32, addr: u64, raw: u64, bytes: &[LoadByte]) -> b
     rest == 0
 }
 
-fn is_fit_byte(m: &Moments, k: u32, addr: u64, wanted: u64, b: &LoadByte) -> bool
+fn keeps_newest(m: &Moments, k: u32, addr: u64, bytes: &[LoadByte]) -> bool
     requires within { k ≤ length m.now.writes }
     requires in_ram { 0x8000_0000 ≤ addr }
-    requires before_end { addr < 0x8400_0000 }
-    ensures { result ≡ is_fit_byte m.now k addr wanted b.now }
+    requires before_end { addr + length bytes.now ≤ 0x8400_0000 }
+    ensures { result ≡ are_kept m.now k addr bytes.now }
 {
-    u64::from(byte_at(m, k, addr, b)) == wanted && !is_below_newest(m, k, addr, b)
+    let mut at = addr;
+    for b in bytes {
+        if is_below_newest(m, k, at, b) {
+            return false;
+        }
+        at += 1;
+    }
+    true
 }
 
 fn byte_at(m: &Moments, k: u32, addr: u64, b: &LoadByte) -> u8
