@@ -3,3 +3,5 @@ mod Floors
 mod Fronts
 mod Places
 mod Ranks
+mod TriedMoments
+mod YoungestStores
