@@ -1,7 +1,9 @@
 mod Choices
 mod Floors
 mod Fronts
+mod KnownFloors
 mod Places
 mod Ranks
 mod TriedMoments
+mod Untaken
 mod YoungestStores

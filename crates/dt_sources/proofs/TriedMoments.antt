@@ -25,7 +25,7 @@ use Rattle.dt_sources.specs.declared.tries.LoadByte.{LoadByte}
 use Rattle.dt_sources.specs.Finding.{is_load_place, StoresAreApart, KeepsNewest, FitsAsKnown, IsLeastMoment}
 use Rattle.dt_sources.specs.Tries.{tried_byte, tried_origin, tried_rank, tried_value, is_kept, are_kept, are_fit}
 use Rattle.dt_sources.proofs.Ranks.{rank-origin_of_key}
-use Rattle.dt_sources.proofs.YoungestStores.{forwarded_last, found_again}
+use Rattle.dt_sources.proofs.YoungestStores.{forwarded_last, found_again, held_at}
 
 -- A moment that is tried with what is known of each byte fits exactly where the load may read there.
 
@@ -78,7 +78,7 @@ rank_is h actions ask k addr b apart own =
     forwarded_rank None is = sym (rank-origin_of_key actions (source_at h.writes k addr))
     forwarded_rank (Some g) is =
         let last = forwarded_last ask.at actions addr g is in
-        sym (ap (λ (o : Option Held). option_map_or (λ (f : Held). store_rank f.drained) o Highest) (found_again actions last.before g last.after apart last.split))
+        sym (ap (λ (o : Option Held). option_map_or (λ (f : Held). store_rank f.drained) o Highest) (found_again actions (length last.before) g apart (held_at (held_of actions) g last.before last.after last.split)))
 
 value_is : (h : History) (actions : List Action) (local : LocalMemory) (ask : LoadAsk) (k addr : ℕ) (bytes : List LoadByte) → AreKnown actions local ask.at addr bytes
     → tried_value h k addr bytes ≡ found_value h.image h.writes actions ask k (length bytes) addr

@@ -1,14 +1,16 @@
-use Rattle.std.proofs.Common.{ℕ, ◌≡◌, ◌==◌, ◌&&◌, Bool, true, false, not, Option, Some, None, List, [], ◌∷◌, ◌++◌, map, filter, find, reverse, cond, refl, sym, ap, ◌∙◌, subst, inl, inr, IsTrue}
-use Rattle.std.specs.List.{list_all}
+use Rattle.std.proofs.Common.{ℕ, ◌≡◌, ◌==◌, ◌&&◌, Bool, true, false, not, Option, Some, None, List, [], ◌∷◌, ◌++◌, length, take, drop, zero, suc, map, filter, find, reverse, cond, refl, sym, ap, ◌∙◌, subst, inl, inr, IsTrue}
+use Rattle.std.specs.List.{list_all, slice_get}
 use Rattle.std.specs.Option.{option_or, option_map_or}
 use Rattle.std.proofs.lemmas.Bool.{and_parts, and_from, cases_Bool, cond-true, cond-false, eq-eqb, not-true, not_from_false}
-use Rattle.std.proofs.lemmas.List.{reverse-append}
+use Rattle.std.proofs.lemmas.List.{reverse-append, take-append-drop}
+use Rattle.std.proofs.lemmas.Option.{slice_get_within}
 use Rattle.std.proofs.lemmas.List.Folds.{find-append}
 use Rattle.dt_record.specs.declared.accesses.OwnStore.{OwnStore}
 use Rattle.dt_record.specs.Memory.{line_of}
 use Rattle.dt_record.specs.Actions.{Action, Stored, Drained, Fenced, Loaded, Atomic, Held, held_from, held_of, raised, is_undrained, store_covers, forwarded}
 use Rattle.dt_stores.specs.Standing.{stores_of}
 use Rattle.dt_sources.specs.Finding.{are_apart, StoresAreApart}
+use Rattle.dt_sources.proofs.Places.{slice_get-append_left, slice_get-append_seam}
 
 -- The youngest store that passes a test, and how it is found again by its number.
 
@@ -94,8 +96,36 @@ found_by_seq (b ∷ before) h after apart =
     let other = not-true (b.store.seq == h.store.seq) (all_middle (λ t. not (b.store.seq == t.seq)) before h after parts.0) in
     cond-false (b.store.seq == h.store.seq) (Some b) (find (λ g. g.store.seq == h.store.seq) (before ++ h ∷ after)) other ∙ found_by_seq before h after parts.1
 
-pub found_again : (actions : List Action) (before : List Held) (h : Held) (after : List Held) → StoresAreApart actions → held_of actions ≡ before ++ h ∷ after
+split_at : {X : Type 0} (xs : List X) (i : ℕ) (x : X) → slice_get xs i ≡ Some x → (before : List X) × (after : List X) × (xs ≡ before ++ x ∷ after)
+split_at [] i x is = absurd (cc is)
+split_at (y ∷ ys) zero x is = let one : y ≡ x = cc is in ([], ys, ap (λ z. z ∷ ys) one)
+split_at (y ∷ ys) (suc i) x is = let rest = split_at ys i x is in (y ∷ rest.0, rest.1, ap (λ zs. y ∷ zs) rest.2)
+
+pub found_again : (actions : List Action) (i : ℕ) (h : Held) → StoresAreApart actions → slice_get (held_of actions) i ≡ Some h
     → find (λ g. g.store.seq == h.store.seq) (held_of actions) ≡ Some h
-found_again actions before h after apart split =
-    ap (find (λ g. g.store.seq == h.store.seq)) split
-    ∙ found_by_seq before h after (ap are_apart (ap (map (λ g. g.store)) (sym split) ∙ stores_held_from actions [] 0 0 actions) ∙ apart)
+found_again actions i h apart is =
+    let parts = split_at (held_of actions) i h is in
+    ap (find (λ g. g.store.seq == h.store.seq)) parts.2
+    ∙ found_by_seq parts.0 h parts.1 (ap are_apart (ap (map (λ g. g.store)) (sym parts.2) ∙ stores_held_from actions [] 0 0 actions) ∙ apart)
+
+-- the place of the last one that passes
+pub held_at : (hs : List Held) (h : Held) (before after : List Held) → hs ≡ before ++ h ∷ after → slice_get hs (length before) ≡ Some h
+held_at hs h before after split = ap (λ l. slice_get l (length before)) split ∙ slice_get-append_seam before h after
+
+stores_of-append : (xs ys : List Action) → stores_of (xs ++ ys) ≡ stores_of xs ++ stores_of ys
+stores_of-append [] ys = refl
+stores_of-append (Stored s ∷ xs) ys = ap (λ l. s ∷ l) (stores_of-append xs ys)
+stores_of-append (Drained key on count ∷ xs) ys = stores_of-append xs ys
+stores_of-append (Fenced ww wr rr ∷ xs) ys = stores_of-append xs ys
+stores_of-append (Loaded ask ∷ xs) ys = stores_of-append xs ys
+stores_of-append (Atomic key addr width reads acquires ∷ xs) ys = stores_of-append xs ys
+
+-- a store among first actions keeps its place among all
+pub stores_of-front : (m : ℕ) (actions : List Action) (i : ℕ) (s : OwnStore) → slice_get (stores_of (take m actions)) i ≡ Some s → slice_get (stores_of actions) i ≡ Some s
+stores_of-front m actions i s is =
+    ap (λ l. slice_get (stores_of l) i) (sym (take-append-drop m actions)) ∙ ap (λ l. slice_get l i) (stores_of-append (take m actions) (drop m actions))
+    ∙ slice_get-append_left (stores_of (take m actions)) (stores_of (drop m actions)) i (slice_get_within (stores_of (take m actions)) i s is) ∙ is
+
+pub none_forwarded : (at : ℕ) (actions : List Action) (addr : ℕ) → forwarded at actions addr ≡ None → list_all (λ g. not (is_forward at addr g)) (held_of actions) ≡ true
+none_forwarded at actions addr none =
+    none_passes (is_forward at addr) (held_of actions) (sym (find-reverse-filter (is_undrained at) (λ g. store_covers addr g.store) (held_of actions)) ∙ none)

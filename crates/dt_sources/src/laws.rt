@@ -1,5 +1,6 @@
 //! Laws of the definitions, for the crates above. The functions do nothing.
 ghost use Rattle.dt_sources.specs.Choice.{LeastChoiceIsLeast, RefusalIsExact, FrontsHaveSources, LeastChoiceGoesOn};
+ghost use Rattle.dt_sources.specs.Knowing.{KnownIsFloor, KnownFitIsFit, KnowingGoesOn};
 
 use dt_versions::sources_rise;
 
@@ -26,4 +27,19 @@ pub fn fronts_have_sources()
 /// Least choices are continued by the least moment that fits the next load.
 pub fn least_choice_goes_on()
     ensures { LeastChoiceGoesOn }
+{}
+
+/// What local memory knows asks of a load's sources what the floor of the earlier loads asks.
+pub fn known_is_floor()
+    ensures { KnownIsFloor }
+{}
+
+/// A moment fits a load with local memory exactly where it fits after the earlier loads' moments.
+pub fn known_fit_is_fit()
+    ensures { KnownFitIsFit }
+{}
+
+/// Local memory goes on knowing what it has to, where what an action had and wrote is noted.
+pub fn knowing_goes_on()
+    ensures { KnowingGoesOn }
 {}

@@ -12,4 +12,7 @@ mod tries;
 
 pub use dt_record::{LoadAsk, Origin, Sources};
 pub use finding::{Found, find};
-pub use laws::{fronts_have_sources, least_choice_goes_on, least_choice_is_least, refusal_is_exact};
+pub use laws::{
+    fronts_have_sources, knowing_goes_on, known_fit_is_fit, known_is_floor, least_choice_goes_on,
+    least_choice_is_least, refusal_is_exact,
+};
