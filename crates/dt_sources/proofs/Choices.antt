@@ -90,11 +90,11 @@ next_is_same : (actions : List Action) (action : Action) (moments : ℕ → ℕ)
 next_is_same actions action moments k place within m before = with_moment-elsewhere moments (length actions) k m (λ same. omega arith)
 
 -- a load that is not the next one is one of those before
-earlier_load : (actions : List Action) (action found : Action) (place : ℕ) → slice_get (then_action actions action) place ≡ Some found
+pub earlier_load : (actions : List Action) (action found : Action) (place : ℕ) → slice_get (then_action actions action) place ≡ Some found
     → place < length actions → slice_get actions place ≡ Some found
 earlier_load actions action found place is within = sym (slice_get-append_left actions (action ∷ []) place within) ∙ is
 
-next_action : (actions : List Action) (action found : Action) (place : ℕ) → slice_get (then_action actions action) place ≡ Some found
+pub next_action : (actions : List Action) (action found : Action) (place : ℕ) → slice_get (then_action actions action) place ≡ Some found
     → length actions ≤ place → (place ≡ length actions) × (action ≡ found)
 next_action actions action found place is past =
     let within = slice_get_within (then_action actions action) place found is in

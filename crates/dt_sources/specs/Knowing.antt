@@ -75,16 +75,20 @@ abbrev pub IsAddedKey : List Write → List Action → (moment : ℕ) → Action
 IsAddedKey writes actions moment action next after byte key =
     (origin_at writes actions moment action byte ≡ Some (origin.Write key)) ⊎ (WroteBefore writes after byte key × (key_below key next ≡ false))
 
--- How local memory goes on knowing: at first nothing is known, and after one more action each byte
--- has the greater of its newest key and of those that the action adds. An own write between two
--- records is one that the first of them made.
+-- How local memory goes on knowing: at first nothing is known; a record that does none of the actions
+-- and writes nothing leaves it; and after one more action each byte has the greater of its newest key
+-- and of those that the action adds. An own write between two of a hart's records is one that the
+-- first of them made.
 pub record KnowingGoesOn : Type 0 where
   pub at_first : (writes : List Write) (moments : ℕ → ℕ) (next : Key) → ((byte : ℕ) (key : Key) → ¬ WroteBefore writes next byte key)
       → Knows (local_memory [] None) writes [] moments next
+  pub other_record : (local : LocalMemory) (writes : List Write) (actions : List Action) (moments : ℕ → ℕ) (next after : Key)
+      → Knows local writes actions moments next → next.hart ≡ after.hart → key_below after next ≡ false
+      → ((byte : ℕ) (key : Key) → WroteBefore writes after byte key → KeyBelow key next)
+      → Knows local writes actions moments after
   pub action : (local noted : LocalMemory) (writes : List Write) (actions : List Action) (moments others : ℕ → ℕ) (action : Action) (next after : Key) (added : ℕ → Option Key)
-      → Knows local writes actions moments next
+      → Knows local writes actions moments next → next.hart ≡ after.hart → key_below after next ≡ false
       → ((place : ℕ) → place < length actions → others place ≡ moments place)
-      → next.hart ≡ after.hart → key_below after next ≡ false
       → ((byte : ℕ) → IsGreatest (IsAddedKey writes actions (others (length actions)) action next after byte) (added byte))
       → ((byte : ℕ) → newest_of noted byte ≡ greater (newest_of local byte) (added byte))
       → Knows noted writes (then_action actions action) others after
