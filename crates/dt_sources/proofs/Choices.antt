@@ -134,12 +134,15 @@ pub refusal_exact : SourcesRise → RefusalIsExact
 refusal_exact rises image writes actions moments ask ordered chosen = (
   λ has.
       let others : ℕ → ℕ = has.0 in
-      let longer : List Action = then_action actions (Loaded ask) in
-      (others (length actions),
-      fits_falls rises image writes longer moments others (length actions) ask (others (length actions)) ordered
-      (record { at = λ m a before is. chosen_below rises image writes actions moments others ordered chosen (front_fits image writes actions (Loaded ask ∷ []) others has.1) m a
-          (earlier_load actions (Loaded ask) (Loaded a) m is before) })
-      (has.1 (length actions) ask (slice_get-append_seam actions (Loaded ask) []))),
+      let longer : List Action = then_action actions (Loaded ask) in (
+        others (length actions),
+        fits_falls rises image writes longer moments others (length actions) ask (others (length actions)) ordered
+            (record {
+              at = λ m a before is. chosen_below rises image writes actions moments others ordered chosen (front_fits image writes actions (Loaded ask ∷ []) others has.1) m a
+                  (earlier_load actions (Loaded ask) (Loaded a) m is before);
+            })
+            (has.1 (length actions) ask (slice_get-append_seam actions (Loaded ask) [])),
+      ),
   λ some. (with_moment moments (length actions) some.0, next_fits image writes actions moments ask some.0 chosen.fits some.1),
 )
 
@@ -173,6 +176,7 @@ goes_on = record {
       | inl within ↦ within
       | inr past ↦ absurd (no_load a (next_action actions action (Loaded a) place is past).1)
     ]
+
     next_least : (image : List ℕ) (writes : List Write) (actions : List Action) (moments : ℕ → ℕ) (ask : LoadAsk) (k : ℕ)
         → ChoosesLeast image writes actions moments → ((j : ℕ) → FitsNext image writes actions moments ask j → k ≤ j)
         → (place : ℕ) (a : LoadAsk) → slice_get (then_action actions (Loaded ask)) place ≡ Some (Loaded a)

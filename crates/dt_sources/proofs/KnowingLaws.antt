@@ -146,9 +146,9 @@ knowing = record {
       subst (IsGreatest Known) (sym (notes byte)) (record {
         bound = λ key known.
             let from_old = λ (is : IsKnownKey writes actions moments next byte key).
-                not_below-chain (source_rank (greater old new)) (source_rank old) (At key) (greater_left old new) ((knows byte).bound key is) in
+            not_below-chain (source_rank (greater old new)) (source_rank old) (At key) (greater_left old new) ((knows byte).bound key is) in
             let from_new = λ (is : IsAddedKey writes actions (others (length actions)) action next after byte key).
-                not_below-chain (source_rank (greater old new)) (source_rank new) (At key) (greater_right old new) ((adds byte).bound key is) in
+            not_below-chain (source_rank (greater old new)) (source_rank new) (At key) (greater_right old new) ((adds byte).bound key is) in
             elim known [
               | inl had ↦ elim (had_cases writes actions moments others action byte key same had) [
                 | inl earlier ↦ from_old (inl earlier)

@@ -41,10 +41,12 @@ store_was_forwarded writes before k (Loaded a) byte seq had = within (is_within 
     of_key : (o : Option Key) → origin_of_key o ≡ origin.Store seq → ⊥
     of_key None is = cc is
     of_key (Some key) is = cc is
+
     from : (o : Option Held) → forwarded a.at before byte ≡ o → option_map_or (λ (h : Held). origin.Store h.store.seq) o (origin_of_key (source_at writes k byte)) ≡ origin.Store seq
         → (at : ℕ) × (h : Held) × (forwarded at before byte ≡ Some h) × (h.store.seq ≡ seq)
     from None is gives = absurd (of_key (source_at writes k byte) gives)
     from (Some h) is gives = (a.at, h, is, cc gives)
+
     within : (b : Bool) → (if b then Some (origin_of writes before a k byte) else None) ≡ Some (origin.Store seq)
         → (at : ℕ) × (h : Held) × (forwarded at before byte ≡ Some h) × (h.store.seq ≡ seq)
     within true gives = from (forwarded a.at before byte) refl (cc gives)
@@ -54,6 +56,7 @@ store_was_forwarded writes before k (Atomic key addr width reads acquires) byte 
     of_key : (o : Option Key) → Some (origin_of_key o) ≡ Some (origin.Store seq) → ⊥
     of_key None is = cc is
     of_key (Some k) is = cc is
+
     within : (b : Bool) → (if b then Some (origin_of_key (source_at writes (moment_of writes key) byte)) else None) ≡ Some (origin.Store seq) → ⊥
     within true gives = of_key (source_at writes (moment_of writes key) byte) gives
     within false gives = cc gives
@@ -107,8 +110,10 @@ known_keeps_floor local writes actions moments ask knows judged k byte keeps = r
   where
     own : Rank
     own = rank actions (origin_of writes actions ask k byte)
+
     at_known : (key : Key) → IsKnownKey writes actions moments ask.key byte key → rank_below own (At key) ≡ false
     at_known key known = not_below-chain own (source_rank (newest_of local byte)) (At key) keeps ((knows byte).bound key known)
+
     of_store : (still : Held) (i : ℕ) → slice_get (held_of actions) i ≡ Some still → IsTrue (store_covers byte still.store) → (o : Option Key) → still.drained ≡ o → rank_below own (store_rank o) ≡ false
     of_store still i there covering (Some key) drained = at_known key (inr (judged.drained i still key byte there drained covering))
     of_store still i there covering None free =
@@ -120,6 +125,7 @@ known_keeps_floor local writes actions moments ask knows judged k byte keeps = r
         ∙ ap (λ (o : Option Held). option_map_or (λ (b : Held). store_rank b.drained) o Highest) (found_again actions (length last.before) g judged.apart (held_at (held_of actions) g last.before last.after last.split))
         ∙ ap store_rank waits.2 in
         ap (λ r. rank_below r Highest) highest
+
     kept : (m : ℕ) (action : Action) (o : Origin) → slice_get actions m ≡ Some action → origin_at writes (take m actions) (moments m) action byte ≡ Some o → rank_below own (rank actions o) ≡ false
     kept m action origin.Image there had = not_below_image own
     kept m action (origin.Write key) there had = at_known key (inl (record { place = m; action = action; there = there; had = had }))
@@ -148,8 +154,7 @@ pub known_floor : KnownIsFloor
 known_floor local writes actions moments ask knows judged k byte =
     let next = then_action actions (Loaded ask) in
     let own = rank actions (origin_of writes actions ask k byte) in
-    let same = front_is_same (length actions) actions (Loaded ask ∷ []) moments moments (omega arith) (λ m before. refl) in
-    (
+    let same = front_is_same (length actions) actions (Loaded ask ∷ []) moments moments (omega arith) (λ m before. refl) in (
       λ keeps. floor_along writes actions next moments moments (length actions) ask byte own (same_back (length actions) next actions moments moments same)
           (known_keeps_floor local writes actions moments ask knows judged k byte keeps),
       λ floor. floor_keeps_known local writes actions moments ask knows byte own (floor_along writes next actions moments moments (length actions) ask byte own same floor),
@@ -159,8 +164,7 @@ pub known_fit : KnownFitIsFit
 known_fit image local writes actions moments ask knows judged k =
     let next = then_action actions (Loaded ask) in
     let front : take (length actions) next ≡ actions = take-append-le (length actions) actions (Loaded ask ∷ []) (omega arith) ∙ take_all (length actions) actions (omega arith) in
-    let Floor : ℕ → Rank → Type 0 = KeepsFloor writes next moments (length actions) ask in
-    (
+    let Floor : ℕ → Rank → Type 0 = KeepsFloor writes next moments (length actions) ask in (
       λ fits. subst (λ before. FitsLoad image writes before Floor ask k) (sym front) (record {
         visible = fits.visible;
         value = fits.value;

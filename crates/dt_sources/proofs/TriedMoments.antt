@@ -124,8 +124,8 @@ all_kept h actions local ask k addr (b ∷ bs) apart known keep =
     and_from (is_kept h k addr b) (are_kept h k (addr + 1) bs)
     (not_from_false (rank_below (tried_rank h k addr b) (source_rank b.newest)) (below_is h actions local ask k addr b apart first.0 first.1 ∙ kept))
     (all_kept h actions local ask k (addr + 1) bs apart (known_rest actions local ask.at addr b bs known) (λ i within.
-        let there : addr + suc i ≡ addr + 1 + i = omega arith in
-        subst (λ n. KeepsNewest local n (rank actions (origin_of h.writes actions ask k n))) there (keep (suc i) (omega arith))))
+    let there : addr + suc i ≡ addr + 1 + i = omega arith in
+    subst (λ n. KeepsNewest local n (rank actions (origin_of h.writes actions ask k n))) there (keep (suc i) (omega arith))))
 
 -- what is known of the bytes of a load
 pub record AreKnownFor (actions : List Action) (local : LocalMemory) (ask : LoadAsk) (bytes : List LoadByte) : Type 0 where

@@ -111,8 +111,10 @@ covering_line s byte placed covering =
   where
     by_two : (addr b : ℕ) → addr % 2 ≡ 0 → addr ≤ b → b < addr + 2 → line_of addr ≡ line_of b
     by_two addr b even from to = omega arith
+
     by_four : (addr b : ℕ) → addr % 4 ≡ 0 → addr ≤ b → b < addr + 4 → line_of addr ≡ line_of b
     by_four addr b even from to = omega arith
+
     by_eight : (addr b : ℕ) → addr % 8 ≡ 0 → addr ≤ b → b < addr + 8 → line_of addr ≡ line_of b
     by_eight addr b even from to = omega arith
 
@@ -123,12 +125,15 @@ untaken_is_forwarded actions at byte i h placed is free covering = parts (forwar
   where
     waits : is_undrained at h ≡ true
     waits = ap (λ o. option_map_or (λ (key : Key). nat_lt at key.stamp) o true) free
+
     passes : is_forward at byte h ≡ true
     passes = and_from (is_undrained at h) (store_covers byte h.store) waits covering
+
     lies : (j : ℕ) (g : Held) → slice_get (held_of actions) j ≡ Some g → store_covers byte g.store ≡ true → line_of g.store.addr ≡ line_of byte
     lies j g g_is covers =
         let store_is : slice_get (stores_of actions) j ≡ Some g.store = ap (λ l. slice_get l j) (sym (stores_held_from actions [] 0 0 actions)) ∙ slice_get-map (λ (b : Held). b.store) (held_of actions) j ∙ ap (option_map (λ (b : Held). b.store)) g_is in
         covering_line g.store byte (list_all-get is_store_place (stores_of actions) j g.store placed store_is) covers
+
     parts : (o : Option Held) → forwarded at actions byte ≡ o → (g : Held) × (forwarded at actions byte ≡ Some g) × (g.drained ≡ None)
     parts None none =
         let not_it = list_all-get (λ g. not (is_forward at byte g)) (held_of actions) i h (none_forwarded at actions byte none) is in
@@ -142,7 +147,10 @@ untaken_is_forwarded actions at byte i h placed is free covering = parts (forwar
               let not_it = list_all-get (λ b. not (is_forward at byte b)) last.after (i - (length last.before + 1)) h last.none_after past in
               absurd (both_ways (is_forward at byte h) (not-true (is_forward at byte h) not_it) passes)
           | inr early ↦
-              let g_covers = (and_parts (is_undrained at g) (store_covers byte g.store) last.passes).1 in
-              (g, found, untaken_after actions [] 0 0 actions i (length last.before) h g early is g_is
-              (lies i h is covering ∙ sym (lies (length last.before) g g_is g_covers)) free)
+              let g_covers = (and_parts (is_undrained at g) (store_covers byte g.store) last.passes).1 in (
+                g,
+                found,
+                untaken_after actions [] 0 0 actions i (length last.before) h g early is g_is
+                    (lies i h is covering ∙ sym (lies (length last.before) g g_is g_covers)) free,
+              )
         ]

@@ -84,9 +84,12 @@ fn is_below_newest(m: &Moments, k: u32, addr: u64, b: &LoadByte) -> bool
 {
     match b.own {
         Some(Forward { drained: None, .. }) => false,
-        Some(Forward {
-            drained: Some(key), ..
-        }) => is_below(Some(key), b.newest),
+        Some(
+            Forward {
+                drained: Some(key),
+                ..
+            },
+        ) => is_below(Some(key), b.newest),
         None => is_below(m.source(k, addr), b.newest),
     }
 }
