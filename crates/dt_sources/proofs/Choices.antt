@@ -1,11 +1,11 @@
-use Rattle.std.proofs.Common.{ℕ, ◌≡◌, ◌≢◌, ◌+◌, ◌<◌, ◌≤◌, ◌==◌, if◌then◌else◌, Some, List, [], ◌∷◌, ◌++◌, length, zero, suc, refl, sym, ap, ◌∙◌, subst, inl, inr, IsTrue, arith, length-append}
+use Rattle.std.proofs.Common.{ℕ, ◌≡◌, ◌≢◌, ◌+◌, ◌<◌, ◌≤◌, ◌==◌, Some, List, [], ◌∷◌, length, zero, suc, refl, sym, ap, ◌∙◌, subst, inl, inr, IsTrue, arith, length-append}
 use Rattle.std.specs.List.{slice_get}
 use Rattle.std.proofs.lemmas.Bool.{cases_eq, cases_lt, eq-eqb, ne_eqb, cond-true, cond-false}
 use Rattle.std.proofs.lemmas.Option.{slice_get_within}
 use Rattle.dt_record.specs.declared.writes.Write.{Write}
 use Rattle.dt_record.specs.declared.accesses.LoadAsk.{LoadAsk}
 use Rattle.dt_record.specs.Actions.{Action, Loaded}
-use Rattle.dt_record.specs.LoadSources.{Fits, HasSources, AreLeastSources}
+use Rattle.dt_record.specs.LoadSources.{Fits}
 use Rattle.dt_versions.specs.History.{are_in_order}
 use Rattle.dt_versions.specs.Laws.{SourcesRise}
 use Rattle.dt_sources.specs.Choice.{FitsThere, FitsNext, ChoosesLeast, then_action, with_moment, LeastChoiceIsLeast, RefusalIsExact, LeastChoiceGoesOn}

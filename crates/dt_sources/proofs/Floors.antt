@@ -1,4 +1,4 @@
-use Rattle.std.proofs.Common.{ℕ, ◌≡◌, ◌<◌, ◌≤◌, Bool, true, false, if◌then◌else◌, Option, Some, None, List, take, refl, sym, ap, ◌∙◌, subst, IsTrue}
+use Rattle.std.proofs.Common.{ℕ, ◌≡◌, ◌<◌, ◌≤◌, Bool, true, false, if◌then◌else◌, Option, Some, None, List, take, refl, IsTrue}
 use Rattle.std.specs.Prelude.{IfSome}
 use Rattle.std.specs.Option.{option_map_or}
 use Rattle.std.specs.List.{slice_get}
@@ -8,7 +8,7 @@ use Rattle.dt_record.specs.declared.accesses.LoadAsk.{LoadAsk}
 use Rattle.dt_record.specs.declared.origins.Origin.TheVariants as origin
 use Rattle.dt_record.specs.Memory.{source_at}
 use Rattle.dt_record.specs.Actions.{Action, Stored, Drained, Fenced, Loaded, Atomic, Held, forwarded}
-use Rattle.dt_record.specs.LoadSources.{Rank, rank, rank_below, origin_of, origin_of_key, origin_at, is_within, FitsLoad, KeepsFloor}
+use Rattle.dt_record.specs.LoadSources.{Rank, rank, rank_below, origin_of, origin_of_key, origin_at, is_within, KeepsFloor}
 use Rattle.dt_versions.specs.History.{are_in_order}
 use Rattle.dt_versions.specs.Laws.{SourcesRise, source_rank}
 use Rattle.dt_sources.specs.Choice.{FitsThere}

@@ -1,6 +1,5 @@
-use Rattle.std.proofs.Common.{ℕ, ◌≡◌, ◌<◌, ◌≤◌, ◌⊎◌, Bool, true, false, Option, Some, None, List, [], ◌∷◌, ◌++◌, length, take, refl, sym, ap, ◌∙◌, subst, inl, inr, IsTrue, arith}
+use Rattle.std.proofs.Common.{ℕ, ◌≡◌, ◌<◌, ◌≤◌, ◌⊎◌, false, Option, Some, None, List, [], ◌∷◌, length, take, refl, sym, ap, ◌∙◌, subst, inl, inr, arith}
 use Rattle.std.specs.Prelude.{IfSome}
-use Rattle.std.specs.List.{slice_get}
 use Rattle.std.proofs.lemmas.Bool.{cases_Bool, cases_lt}
 use Rattle.std.proofs.lemmas.Bool.Decides.{nat_tests}
 use Rattle.std.proofs.lemmas.List.{take_all, take-append-le}
@@ -13,9 +12,9 @@ use Rattle.dt_record.specs.KeyLaws.{key_below-itself, key_below-back}
 use Rattle.dt_record.specs.Actions.{Action}
 use Rattle.dt_record.specs.LoadSources.{At, rank_below, origin_at}
 use Rattle.dt_versions.specs.Laws.{source_rank}
-use Rattle.dt_local.specs.LocalMemory.{LocalMemory, local_memory, newest_of, greater}
+use Rattle.dt_local.specs.LocalMemory.{newest_of, greater}
 use Rattle.dt_sources.specs.Choice.{then_action}
-use Rattle.dt_sources.specs.Knowing.{HadFrom, WroteBefore, IsKnownKey, IsGreatest, Knows, IsAddedKey, KnowingGoesOn}
+use Rattle.dt_sources.specs.Knowing.{HadFrom, WroteBefore, IsKnownKey, IsGreatest, IsAddedKey, KnowingGoesOn}
 use Rattle.dt_sources.proofs.Choices.{earlier_load, next_action}
 use Rattle.dt_sources.proofs.Places.{slice_get-append_left, slice_get-append_seam}
 use Rattle.dt_sources.proofs.Ranks.{rank_below-itself, not_below_image, not_below-chain}

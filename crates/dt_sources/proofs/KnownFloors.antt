@@ -1,9 +1,9 @@
-use Rattle.std.proofs.Common.{ℕ, ◌≡◌, ◌<◌, ◌≤◌, ◌⊎◌, ◌==◌, ◌&&◌, Bool, true, false, if◌then◌else◌, Option, Some, None, List, [], ◌∷◌, ◌++◌, length, map, take, drop, find, refl, sym, ap, ◌∙◌, subst, inl, inr, IsTrue, arith}
+use Rattle.std.proofs.Common.{ℕ, ◌≡◌, ◌&&◌, Bool, true, false, if◌then◌else◌, Option, Some, None, List, [], ◌∷◌, length, take, refl, sym, ap, ◌∙◌, subst, inl, inr, IsTrue, arith}
 use Rattle.std.specs.Prelude.{IfSome, option_map}
 use Rattle.std.specs.List.{slice_get}
 use Rattle.std.specs.Option.{option_map_or}
 use Rattle.std.proofs.lemmas.Bool.{and_parts}
-use Rattle.std.proofs.lemmas.List.{take_all, take-append-le, take-append-drop}
+use Rattle.std.proofs.lemmas.List.{take_all, take-append-le}
 use Rattle.std.proofs.lemmas.Option.{slice_get-map, slice_get_within}
 use Rattle.dt_record.specs.declared.keys.Key.{Key}
 use Rattle.dt_record.specs.declared.writes.Write.{Write}
@@ -14,18 +14,17 @@ use Rattle.dt_record.specs.declared.origins.Origin.TheVariants as origin
 use Rattle.dt_record.specs.Keys.{key_below}
 use Rattle.dt_record.specs.Memory.{source_at, moment_of}
 use Rattle.dt_record.specs.Actions.{Action, Stored, Drained, Fenced, Loaded, Atomic, Held, held_of, is_undrained, store_covers, forwarded}
-use Rattle.dt_record.specs.LoadSources.{Rank, Lowest, At, Highest, rank, rank_below, store_rank, origin_of, origin_of_key, origin_at, is_within, FitsLoad, KeepsFloor}
+use Rattle.dt_record.specs.LoadSources.{Rank, At, Highest, rank, rank_below, store_rank, origin_of, origin_of_key, origin_at, is_within, FitsLoad, KeepsFloor}
 use Rattle.dt_versions.specs.Laws.{source_rank}
 use Rattle.dt_stores.specs.Standing.{stores_of}
 use Rattle.dt_local.specs.LocalMemory.{LocalMemory, newest_of}
-use Rattle.dt_sources.specs.Choice.{FitsNext, then_action}
-use Rattle.dt_sources.specs.Finding.{StoresAreApart, KeepsNewest, FitsAsKnown}
-use Rattle.dt_sources.specs.Knowing.{HadFrom, WroteBefore, IsKnownKey, IsGreatest, Knows, AreJudged, KnownIsFloor, KnownFitIsFit}
+use Rattle.dt_sources.specs.Choice.{then_action}
+use Rattle.dt_sources.specs.Finding.{StoresAreApart, KeepsNewest}
+use Rattle.dt_sources.specs.Knowing.{IsKnownKey, Knows, AreJudged, KnownIsFloor, KnownFitIsFit}
 use Rattle.dt_sources.proofs.Fronts.{floor_along, front_is_same, same_back}
-use Rattle.dt_sources.proofs.Places.{slice_get-append_left}
 use Rattle.dt_sources.proofs.Ranks.{not_below_image, not_below-chain}
 use Rattle.dt_sources.proofs.Untaken.{untaken_is_forwarded}
-use Rattle.dt_sources.proofs.YoungestStores.{is_forward, forwarded_last, found_again, held_at, stores_held_from, stores_of-front}
+use Rattle.dt_sources.proofs.YoungestStores.{forwarded_last, found_again, held_at, stores_held_from, stores_of-front}
 
 -- The newest keys of local memory ask what the floor of a load asks.
 

@@ -1,11 +1,9 @@
-use Rattle.std.proofs.Common.{ℕ, ◌≡◌, ◌+◌, ◌*◌, ◌<◌, ◌≤◌, ◌%◌, ◌==◌, ◌&&◌, Bool, true, false, not, Option, Some, None, option_map, List, [], ◌∷◌, length, length-take, take, get_or, zero, suc, refl, sym, ap, ◌∙◌, subst, inl, inr, IsTrue, arith}
+use Rattle.std.proofs.Common.{ℕ, ◌≡◌, ◌+◌, ◌*◌, ◌<◌, ◌≤◌, ◌%◌, ◌==◌, ◌&&◌, true, false, Option, Some, None, option_map, List, [], ◌∷◌, length, length-take, take, get_or, zero, suc, refl, sym, ap, ◌∙◌, subst, inl, inr, IsTrue, arith}
 use Rattle.std.specs.Option.{option_map_or}
 use Rattle.std.specs.List.{slice_get}
 use Rattle.std.proofs.lemmas.Bool.{and_parts, and_from, cases_lt, eqb-true, eq-eqb, not-true, not_from_false, false≢true}
 use Rattle.std.proofs.lemmas.Bool.Decides.{nat_tests}
 use Rattle.std.proofs.lemmas.Option.{slice_get-get_or}
-use Rattle.dt_record.specs.declared.keys.Key.{Key}
-use Rattle.dt_record.specs.declared.writes.Write.{Write}
 use Rattle.dt_record.specs.declared.accesses.LoadAsk.{LoadAsk}
 use Rattle.dt_record.specs.declared.origins.Origin.{Origin}
 use Rattle.dt_record.specs.declared.origins.Origin.TheVariants as origin
@@ -13,7 +11,7 @@ use Rattle.dt_record.specs.Memory.{memory_at, source_at}
 use Rattle.dt_record.specs.Visible.{IsVisible}
 use Rattle.dt_record.specs.Actions.{Action, Held, held_of, forwarded}
 use Rattle.dt_record.specs.Lawful.{is_in_ram}
-use Rattle.dt_record.specs.LoadSources.{Highest, rank, rank_below, store_rank, stored_byte, origin_of, origin_of_key, found_byte, found_value, FitsLoad}
+use Rattle.dt_record.specs.LoadSources.{Highest, rank, rank_below, store_rank, stored_byte, origin_of, origin_of_key, found_byte, found_value}
 use Rattle.dt_versions.specs.History.{History}
 use Rattle.dt_versions.specs.Laws.{source_rank}
 use Rattle.dt_versions.specs.Spans.{AreVisible}

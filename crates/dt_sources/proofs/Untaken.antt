@@ -1,12 +1,11 @@
-use Rattle.std.proofs.Common.{ℕ, ◌≡◌, ◌+◌, ◌-◌, ◌%◌, ◌⊎◌, ◌<◌, ◌≤◌, ◌==◌, ◌&&◌, Bool, true, false, not, if◌then◌else◌, Option, Some, None, List, [], ◌∷◌, ◌++◌, length, map, filter, take, drop, zero, suc, nat_lt, nat_le, refl, sym, ap, ◌∙◌, subst, inl, inr, IsTrue, arith, length-append}
+use Rattle.std.proofs.Common.{ℕ, ◌≡◌, ◌+◌, ◌-◌, ◌%◌, ◌⊎◌, ◌<◌, ◌≤◌, ◌==◌, ◌&&◌, Bool, true, false, not, if◌then◌else◌, Option, Some, None, List, [], ◌∷◌, ◌++◌, length, filter, zero, suc, nat_lt, nat_le, refl, sym, ap, ◌∙◌, inl, inr, IsTrue, arith, length-append}
 use Rattle.std.specs.List.{list_all, slice_get}
 use Rattle.std.specs.Prelude.{option_map}
 use Rattle.std.specs.Option.{option_map_or}
-use Rattle.std.proofs.lemmas.Bool.{and_parts, and_from, and_left, cases_Bool, cases_lt, lt-leb, le-leb, leb-true, ltb-true, eqb-true, false≢true, not-true, both_ways}
+use Rattle.std.proofs.lemmas.Bool.{and_parts, and_from, cases_lt, lt-leb, le-leb, leb-true, ltb-true, eqb-true, not-true, both_ways}
 use Rattle.std.proofs.lemmas.Bool.Decides.{nat_tests}
-use Rattle.std.proofs.lemmas.List.{take-append-drop}
 use Rattle.std.proofs.lemmas.List.Elements.{filter-append}
-use Rattle.std.proofs.lemmas.Option.{slice_get-map, slice_get_within}
+use Rattle.std.proofs.lemmas.Option.{slice_get-map}
 use Rattle.dt_record.specs.declared.keys.Key.{Key}
 use Rattle.dt_record.specs.declared.accesses.OwnStore.{OwnStore}
 use Rattle.dt_record.specs.Memory.{line_of}
@@ -14,9 +13,8 @@ use Rattle.dt_record.specs.Actions.{Action, Stored, Drained, Fenced, Loaded, Ato
 use Rattle.dt_stores.specs.Places.{is_store_place, is_store_width}
 use Rattle.dt_stores.specs.Standing.{stores_of}
 use Rattle.dt_record.specs.Lawful.{is_in_ram}
-use Rattle.dt_sources.specs.Finding.{StoresAreApart}
-use Rattle.dt_sources.proofs.Places.{slice_get-append_left, slice_get-append_seam}
-use Rattle.dt_sources.proofs.YoungestStores.{IsLast, is_forward, forwarded_last, none_forwarded, stores_held_from}
+use Rattle.dt_sources.proofs.Places.{slice_get-append_seam}
+use Rattle.dt_sources.proofs.YoungestStores.{is_forward, forwarded_last, none_forwarded, stores_held_from}
 
 -- A store that no drain has taken is forwarded, or a younger one is that no drain has taken either.
 

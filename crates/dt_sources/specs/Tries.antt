@@ -1,14 +1,11 @@
-use Rattle.std.specs.Prelude.{ℕ, ◌≡◌, ◌+◌, ◌*◌, ◌==◌, ◌&&◌, Bool, true, not, Option, List, [], ◌∷◌, map}
+use Rattle.std.specs.Prelude.{ℕ, ◌+◌, ◌*◌, ◌==◌, ◌&&◌, Bool, true, not, List, [], ◌∷◌}
 use Rattle.std.specs.Option.{option_map_or}
-use Rattle.dt_record.specs.declared.keys.Key.{Key}
-use Rattle.dt_record.specs.declared.accesses.LoadAsk.{LoadAsk}
 use Rattle.dt_record.specs.declared.origins.Origin.{Origin}
 use Rattle.dt_record.specs.declared.origins.Origin.TheVariants as origin
 use Rattle.dt_record.specs.Memory.{memory_at, source_at}
 use Rattle.dt_record.specs.LoadSources.{Rank, rank_below, store_rank, origin_of_key}
 use Rattle.dt_versions.specs.History.{History}
 use Rattle.dt_versions.specs.Laws.{source_rank}
-use Rattle.dt_stores.specs.declared.answers.Forward.{Forward}
 use Rattle.dt_sources.specs.declared.tries.LoadByte.{LoadByte}
 
 -- How one moment is tried, from what is known of each byte before.

@@ -45,7 +45,7 @@ fn image_of(alloc: Global, bytes: &[u8]) -> Result<Image, AllocError> {
 /// A load of the double at the start of the line.
 fn double(key: Key, at: u64, raw: u64) -> LoadAsk
     ensures place { IsTrue (is_load_place result) }
-    ensures same { (result.key ≡ key) × (result.at ≡ at) }
+    ensures same { (result.key ≡ key) × (result.at ≡ at) × (result.addr ≡ LINE) }
 {
     LoadAsk {
         key,
@@ -92,76 +92,92 @@ fn a_drain_of_the_same_cycle_is_seen_or_not(rt: HostRuntime) -> Result<(), Fail>
     Ok(())
 }
 
+/// A local memory that knows a key for the first byte of the line.
+fn knowing(alloc: Global, known: Key) -> Result<Local, AllocError> {
+    let mut local = Local::new(alloc);
+    local.reserve(LINE, 1)?;
+    local.note(LINE, 1, &[known; 64]);
+    Ok(local)
+}
+
 #[test]
 fn a_load_does_not_go_back_behind_an_earlier_one(rt: HostRuntime) -> Result<(), Fail> {
     let moments = drained(rt.alloc(), &[])?;
     let stores = Stores::new(rt.alloc());
-    let mut local = Local::new(rt.alloc());
-    let seen = key(10, 0, 5);
-    local.reserve(LINE, 1)?;
-    local.note(LINE, 1, &[seen; 64]);
-    let ask = double(key(10, 1, 4), 10, 7);
-    assert_eq!(rt;
-        find(&moments, &stores, &local, ask),
-        everywhere(1, Origin::Write(seen))
-    );
-    let ask = double(key(10, 1, 4), 10, 0);
-    assert_eq!(rt; find(&moments, &stores, &local, ask), Found::Nowhere);
-    // Another hart's later write of the same cycle is above what is known, an earlier one is not.
-    for (known, found) in [
-        (key(10, 0, 4), everywhere(1, Origin::Write(seen))),
-        (key(10, 0, 6), Found::Nowhere),
+    let written = everywhere(1, Origin::Write(key(10, 0, 5)));
+    // What is known, the loaded value, and what is found.
+    for (known, raw, found) in [
+        (key(10, 0, 5), 7, written),
+        (key(10, 0, 5), 0, Found::Nowhere),
+        (key(10, 0, 6), 7, Found::Nowhere),
     ] {
-        let mut local = Local::new(rt.alloc());
-        local.reserve(LINE, 2)?;
-        local.note(LINE, 2, &[known; 64]);
-        let ask = double(key(10, 1, 4), 10, 7);
+        let local = knowing(rt.alloc(), known)?;
+        let ask = double(key(10, 1, 4), 10, raw);
         assert_eq!(rt; find(&moments, &stores, &local, ask), found);
     }
     Ok(())
 }
 
-#[test]
-fn a_word_is_forwarded_into_a_double(rt: HostRuntime) -> Result<(), Fail> {
+/// An image with the bytes from 0x11 to 0x88 at the line.
+fn counting(alloc: Global) -> Result<Moments, AllocError> {
     let mut image = [0; 264];
-    for (i, b) in [0x11, 0x22, 0x33, 0x44, 0x55, 0x66, 0x77, 0x88]
-        .iter()
-        .enumerate()
-    {
-        image[256 + i] = *b;
+    for i in 0..8 {
+        image[256 + i] = 0x11 * (i as u8 + 1);
     }
-    let moments = Moments::empty(rt.alloc(), image_of(rt.alloc(), &image)?);
-    let mut stores = Stores::new(rt.alloc());
-    let local = Local::new(rt.alloc());
+    Ok(Moments::empty(alloc, image_of(alloc, &image)?))
+}
+
+/// The word 7 is stored over the first half of the line's first double.
+fn with_word(alloc: Global) -> Result<Stores, AllocError> {
+    let mut stores = Stores::new(alloc);
     stores.commit(OwnStore {
         seq: 2,
         addr: LINE,
         width: 4,
         value: 7,
     })?;
+    Ok(stores)
+}
+
+fn half_forwarded() -> Found {
     let mut from = [Origin::Image; 8];
     for i in 0..4 {
         from[i] = Origin::Store(2);
     }
-    let ask = double(key(4, 0, 3), 4, 0x8877_6655_0000_0007);
-    let sources = Sources { count: 8, from };
-    assert_eq!(rt;
-        find(&moments, &stores, &local, ask),
-        Found::At { moment: 0, sources }
-    );
-    let ask = double(key(4, 0, 3), 4, 0x8877_6655_4433_2211);
-    assert_eq!(rt; find(&moments, &stores, &local, ask), Found::Nowhere);
-    // Once a drain has taken it, it stands where the drain stands.
+    Found::At {
+        moment: 0,
+        sources: Sources { count: 8, from },
+    }
+}
+
+#[test]
+fn a_word_is_forwarded_into_a_double(rt: HostRuntime) -> Result<(), Fail> {
+    let moments = counting(rt.alloc())?;
+    let stores = with_word(rt.alloc())?;
+    let local = knowing(rt.alloc(), key(9, 1, 0))?;
+    for (raw, found) in [
+        (0x8877_6655_0000_0007, half_forwarded()),
+        (0x8877_6655_4433_2211, Found::Nowhere),
+    ] {
+        let ask = double(key(4, 0, 3), 4, raw);
+        assert_eq!(rt; find(&moments, &stores, &local, ask), found);
+    }
+    Ok(())
+}
+
+#[test]
+fn a_drained_word_stands_where_its_drain_stands(rt: HostRuntime) -> Result<(), Fail> {
+    let moments = counting(rt.alloc())?;
+    let mut stores = with_word(rt.alloc())?;
     stores.drain(key(6, 0, 4), LINE, 1);
-    let mut later = Local::new(rt.alloc());
-    later.reserve(LINE, 1)?;
-    later.note(LINE, 1, &[key(6, 1, 0); 64]);
-    let ask = double(key(8, 0, 5), 5, 0x8877_6655_0000_0007);
-    assert_eq!(rt;
-        find(&moments, &stores, &local, ask),
-        Found::At { moment: 0, sources }
-    );
-    assert_eq!(rt; find(&moments, &stores, &later, ask), Found::Nowhere);
+    for (known, found) in [
+        (key(6, 0, 4), half_forwarded()),
+        (key(6, 1, 0), Found::Nowhere),
+    ] {
+        let local = knowing(rt.alloc(), known)?;
+        let ask = double(key(8, 0, 5), 5, 0x8877_6655_0000_0007);
+        assert_eq!(rt; find(&moments, &stores, &local, ask), found);
+    }
     Ok(())
 }
 
@@ -172,23 +188,14 @@ fn a_narrow_load_has_as_many_sources(rt: HostRuntime) -> Result<(), Fail> {
     let local = Local::new(rt.alloc());
     let mut from = [Origin::Image; 8];
     from[0] = Origin::Write(key(10, 0, 5));
-    from[1] = Origin::Write(key(10, 0, 5));
+    let sources = Sources { count: 1, from };
     for (raw, found) in [
-        (
-            7,
-            Found::At {
-                moment: 1,
-                sources: Sources { count: 2, from },
-            },
-        ),
-        (0x1_0007, Found::Nowhere),
+        (7, Found::At { moment: 1, sources }),
+        (0x107, Found::Nowhere),
     ] {
         let ask = LoadAsk {
-            key: key(12, 1, 3),
-            at: 12,
-            addr: LINE,
-            width: 2,
-            raw,
+            width: 1,
+            ..double(key(12, 1, 3), 12, raw)
         };
         assert_eq!(rt; find(&moments, &stores, &local, ask), found);
     }
