@@ -3,7 +3,10 @@ use Rattle.std.proofs.Common.{ℕ, Bool, true, false, not, cond, ◌&&◌, ◌||
 use Rattle.std.proofs.lemmas.Bool.Decides.{nat_tests}
 use Rattle.dt_decode.specs.declared.instructions.Instr.{Instr}
 use Rattle.dt_decode.specs.declared.instructions.Instr.TheVariants.{Ecall, Ebreak, Sret, Mret, Wfi}
-use Rattle.dt_decode.specs.Decoded.{IsDecoded, IsAccessWidth, IsAtomicWidth, has_word_form, is_shift}
+use Rattle.dt_alu.specs.Alu.{has_word_form}
+use Rattle.dt_alu.specs.Amo.{IsAmoWidth}
+use Rattle.dt_alu.specs.Extend.{IsAccessWidth}
+use Rattle.dt_decode.specs.Decoded.{IsDecoded, is_shift}
 use Rattle.dt_decode.specs.Forms.{Form, UpperImmediate, UpperToPc, JumpAndLink, JumpRegister, BranchIf, LoadOf, StoreOf, WithImmediate, ByAmount, WithRegister, MemoryFence, InstructionFence, Reserve, Conditional, Atomic, CsrOf, Plain, TranslationFence, read}
 use Rattle.dt_decode.specs.Rows.{Row, fits, first_form, instr_in}
 use Rattle.dt_decode.specs.Table.{instr_of, table}
@@ -42,7 +45,7 @@ all_sound (r ∷ rs) = is_sound r.form && all_sound rs
 access_width : (w : ℕ) → IsTrue (is_access_width w) → IsAccessWidth w
 access_width w h = grind (arith, nat_tests)
 
-atomic_width : (w : ℕ) → IsTrue (is_atomic_width w) → IsAtomicWidth w
+atomic_width : (w : ℕ) → IsTrue (is_atomic_width w) → IsAmoWidth w
 atomic_width w h = grind (arith, nat_tests)
 
 no_operand : (i : Instr) → IsTrue (has_no_operand i) → IsDecoded i

@@ -2,29 +2,11 @@
 use Rattle.std.specs.Prelude.{ℕ, ◌≡◌, ◌<◌, ◌⊎◌, Bool, true, false, IsTrue, if◌then◌else◌}
 use Rattle.dt_alu.specs.declared.operations.AluOp.{AluOp}
 use Rattle.dt_alu.specs.declared.operations.AluOp.TheVariants.{Add, Sub, Sll, Slt, Sltu, Xor, Srl, Sra, Or, And, Mul, Mulh, Mulhsu, Mulhu, Div, Divu, Rem, Remu}
+use Rattle.dt_alu.specs.Alu.{has_word_form}
+use Rattle.dt_alu.specs.Amo.{IsAmoWidth}
+use Rattle.dt_alu.specs.Extend.{IsAccessWidth}
 use Rattle.dt_decode.specs.declared.instructions.Instr.{Instr}
 use Rattle.dt_decode.specs.declared.instructions.Instr.TheVariants.{Lui, Auipc, Jal, Jalr, Branch, Load, Store, AluImm, Alu, Fence, FenceI, Lr, Sc, Amo, Csr, Ecall, Ebreak, Sret, Mret, Wfi, SfenceVma}
-
--- the operations that RV64 also has for 32-bit words (Volume I, sections 5.2, 7.1 and 7.2)
-abbrev pub has_word_form : AluOp → Bool
-has_word_form Add = true
-has_word_form Sub = true
-has_word_form Sll = true
-has_word_form Slt = false
-has_word_form Sltu = false
-has_word_form Xor = false
-has_word_form Srl = true
-has_word_form Sra = true
-has_word_form Or = false
-has_word_form And = false
-has_word_form Mul = true
-has_word_form Mulh = false
-has_word_form Mulhsu = false
-has_word_form Mulhu = false
-has_word_form Div = true
-has_word_form Divu = true
-has_word_form Rem = true
-has_word_form Remu = true
 
 -- the operations whose immediate is an amount (Volume I, sections 2.4 and 5.2)
 abbrev pub is_shift : AluOp → Bool
@@ -51,14 +33,6 @@ is_shift Remu = false
 abbrev pub IsRegister : ℕ → Type 0
 IsRegister r = r < 32
 
--- a load or a store moves 1, 2, 4 or 8 bytes (Volume I, sections 2.6 and 5.3)
-abbrev pub IsAccessWidth : ℕ → Type 0
-IsAccessWidth width = (width ≡ 1) ⊎ (width ≡ 2) ⊎ (width ≡ 4) ⊎ (width ≡ 8)
-
--- an atomic instruction works on 4 or 8 bytes (Volume I, sections 8.2 and 8.4)
-abbrev pub IsAtomicWidth : ℕ → Type 0
-IsAtomicWidth width = (width ≡ 4) ⊎ (width ≡ 8)
-
 -- `word` is set only where the operation has a form on words
 abbrev pub MayBeWord : AluOp → Bool → Type 0
 MayBeWord op word = IsTrue word → IsTrue (has_word_form op)
@@ -80,9 +54,9 @@ IsDecoded (AluImm op word rd rs1 imm) = MayBeWord op word × IsAmountFor op word
 IsDecoded (Alu op word rd rs1 rs2) = MayBeWord op word × IsRegister rd × IsRegister rs1 × IsRegister rs2
 IsDecoded (Fence fm pred succ) = (fm < 16) × (pred < 16) × (succ < 16)
 IsDecoded FenceI = Unit {0}
-IsDecoded (Lr width aq rl rd rs1) = IsAtomicWidth width × IsRegister rd × IsRegister rs1
-IsDecoded (Sc width aq rl rd rs1 rs2) = IsAtomicWidth width × IsRegister rd × IsRegister rs1 × IsRegister rs2
-IsDecoded (Amo op width aq rl rd rs1 rs2) = IsAtomicWidth width × IsRegister rd × IsRegister rs1 × IsRegister rs2
+IsDecoded (Lr width aq rl rd rs1) = IsAmoWidth width × IsRegister rd × IsRegister rs1
+IsDecoded (Sc width aq rl rd rs1 rs2) = IsAmoWidth width × IsRegister rd × IsRegister rs1 × IsRegister rs2
+IsDecoded (Amo op width aq rl rd rs1 rs2) = IsAmoWidth width × IsRegister rd × IsRegister rs1 × IsRegister rs2
 IsDecoded (Csr op number rd source immediate) = (number < 4096) × IsRegister rd × IsRegister source
 IsDecoded Ecall = Unit {0}
 IsDecoded Ebreak = Unit {0}

@@ -55,8 +55,8 @@ fn read_front<S: Source>(source: &mut S, buf: &mut [u8], room: usize) -> Result<
     source.read(front)
 }
 
-/// Reads into the bytes of the buffer from place `at` on.
-fn read_behind<S: Source>(source: &mut S, buf: &mut [u8], at: usize) -> Result<usize, Failed>
+/// Reads the next bytes into the buffer from place `at` on and says how many: 0 only at the end.
+pub fn read_behind<S: Source>(source: &mut S, buf: &mut [u8], at: usize) -> Result<usize, Failed>
     requires { at < length buf.old }
     ensures within { IfOk result (λ n. at + n ≤ length buf.old) }
     ensures takes { IfOk result (λ n.
@@ -85,6 +85,8 @@ pub fn read_up_to<S: Source>(
         → TakesSome (S.left source.old) (S.left source.new) (bound + 1) }
     ensures fault_only { result ≡ Err ReadRefusal.ReadFault
         → Rose (S.faults source.old) (S.faults source.new) }
+    ensures fault_takes { result ≡ Err ReadRefusal.ReadFault
+        → ((n : ℕ) × (n ≤ bound) × TakesSome (S.left source.old) (S.left source.new) n) }
     ensures refused_takes { OnErr result
         ((n : ℕ) × (n ≤ bound + 1) × TakesSome (S.left source.old) (S.left source.new) n) }
     ensures never_falls { S.faults source.old ≤ S.faults source.new }

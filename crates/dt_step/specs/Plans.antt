@@ -72,17 +72,21 @@ system_plan a Mret bits = Returns true
 system_plan a (SfenceVma rs1 rs2) bits = pages_of a rs1 rs2
 system_plan a i bits = Done 0 0 (next_of a bits)
 
+-- of atomics, and of the system's
+abbrev pub atomic_plan : Arch → Instr → ℕ → Planned
+atomic_plan a (Lr width aq rl rd rs1) bits = NeedsAtomic (register a rs1) width LoadReserved aq rl rd 0
+atomic_plan a (Sc width aq rl rd rs1 rs2) bits =
+    NeedsAtomic (register a rs1) width StoreConditional aq rl rd (low_bytes_of width (register a rs2))
+atomic_plan a (Amo op width aq rl rd rs1 rs2) bits =
+    NeedsAtomic (register a rs1) width (ReadModifyWrite op) aq rl rd (low_bytes_of width (register a rs2))
+atomic_plan a i bits = system_plan a i bits
+
 -- of those that access memory, and of the system's
 abbrev pub access_plan : Arch → Instr → ℕ → Planned
 access_plan a (Load width signed rd rs1 imm) bits = NeedsLoad (offset_address a rs1 imm) width signed rd
 access_plan a (Store width rs1 rs2 imm) bits =
     NeedsStore (offset_address a rs1 imm) width (low_bytes_of width (register a rs2))
-access_plan a (Lr width aq rl rd rs1) bits = NeedsAtomic (register a rs1) width LoadReserved aq rl rd 0
-access_plan a (Sc width aq rl rd rs1 rs2) bits =
-    NeedsAtomic (register a rs1) width StoreConditional aq rl rd (low_bytes_of width (register a rs2))
-access_plan a (Amo op width aq rl rd rs1 rs2) bits =
-    NeedsAtomic (register a rs1) width (ReadModifyWrite op) aq rl rd (low_bytes_of width (register a rs2))
-access_plan a i bits = system_plan a i bits
+access_plan a i bits = atomic_plan a i bits
 
 -- of those that compute or jump, and of all others
 abbrev pub legal_plan : Arch → Instr → ℕ → Planned

@@ -1,9 +1,9 @@
 ghost use Rattle.std.specs.Prelude.{◌≡◌, ◌<◌, ◌%◌, MatchOption};
-ghost use Rattle.dt_alu.specs.Extend.{low_bytes_of};
-ghost use Rattle.dt_decode.specs.Decoded.{IsDecoded, IsAccessWidth};
+ghost use Rattle.dt_alu.specs.Extend.{IsAccessWidth, low_bytes_of};
+ghost use Rattle.dt_decode.specs.Decoded.{IsDecoded};
 ghost use Rattle.dt_step.specs.State.{IsArch};
 ghost use Rattle.dt_step.specs.Causes.{due_cause, due_tval};
-ghost use Rattle.dt_step.specs.Plans.{length_of, next_of, system_plan, access_plan, legal_plan, plan_of, NamesRegister, IsFinishable, HasEvenTarget, HasEvenNext, fence_of, pages_of, csr_operand};
+ghost use Rattle.dt_step.specs.Plans.{length_of, next_of, system_plan, atomic_plan, access_plan, legal_plan, plan_of, NamesRegister, IsFinishable, HasEvenTarget, HasEvenNext, fence_of, pages_of, csr_operand};
 
 use crate::causes::{address_of, due_cause, offset_address, reads_csr, value_of, writes_csr};
 use crate::{Arch, AtomicOp, Planned};
@@ -105,6 +105,19 @@ fn access_plan(a: &Arch, i: Instr, bits: u32) -> Planned
             let value = low_bytes(width, value_of(a, rs2));
             Planned::NeedsStore { va, width, value }
         }
+        _ => atomic_plan(a, i, bits),
+    }
+}
+
+/// The plan of an atomic instruction or of one of the system's.
+fn atomic_plan(a: &Arch, i: Instr, bits: u32) -> Planned
+    requires arch { IsArch a.now }
+    requires decoded { IsDecoded i }
+    ensures plan { result ≡ atomic_plan a.now i bits }
+    ensures finishable { IsFinishable result }
+    ensures even { a.now.pc % 2 ≡ 0 → HasEvenTarget i → HasEvenNext result }
+{
+    match i {
         Instr::Lr {
             width,
             aq,

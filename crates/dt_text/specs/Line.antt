@@ -4,10 +4,12 @@ use Rattle.std.specs.Fmt.{decimal}
 use Rattle.std.specs.Int.{w32, w64, to_be_bytes}
 use Rattle.std.specs.List.{join_with_byte}
 use Rattle.hex.specs.Hex.{encode_lower}
+use Rattle.dt_record.specs.declared.keys.Key.{Key}
 use Rattle.dt_record.specs.declared.records.Record.{Record}
 use Rattle.dt_record.specs.declared.records.Retire.{Retire}
 use Rattle.dt_record.specs.declared.records.Body.{Body}
 use Rattle.dt_record.specs.declared.records.Body.TheVariants.{Commit, Trap, Regs, Csrs, Load, Store, Atomic, Drain, Refill, Beat}
+use Rattle.dt_record.specs.Keys.{key_of}
 use Rattle.dt_record.specs.Spelling.{flag}
 
 -- a space, the name of a field, and what comes after the name
@@ -57,10 +59,10 @@ body_text (Drain line mask count bytes) =
 body_text (Refill line bytes) = codes "Refill" ++ double_field (codes "line") line ++ bytes_field (codes "bytes") bytes
 body_text Beat = codes "Beat"
 
--- the key: the stamp, the hart, and the number among the hart's records
-unfoldable pub key_text : ℕ → Record → List ℕ
-key_text seq r = decimal r.stamp ++ codes "." ++ decimal r.hart ++ codes "." ++ decimal seq
+-- a key: the stamp, the hart, and the number among the hart's records
+unfoldable pub key_text : Key → List ℕ
+key_text key = decimal key.stamp ++ codes "." ++ decimal key.hart ++ codes "." ++ decimal key.seq
 
 -- the line of the record with this number among its hart's records, with its line feed
 unfoldable pub line_text : ℕ → Record → List ℕ
-line_text seq r = key_text seq r ++ codes " " ++ body_text r.body ++ 10 ∷ []
+line_text seq r = key_text (key_of seq r) ++ codes " " ++ body_text r.body ++ 10 ∷ []

@@ -3,8 +3,9 @@ ghost use Rattle.std.specs.Fmt.{decimal};
 ghost use Rattle.std.specs.Int.{w32, w64, to_be_bytes};
 ghost use Rattle.std.specs.List.{join_with_byte};
 ghost use Rattle.hex.specs.Hex.{encode_lower};
-ghost use Rattle.dt_text.specs.Line.{field, sixteen_digits, double_field, word_field, decimal_field, bytes_field, doubles_field};
+ghost use Rattle.dt_text.specs.Line.{field, sixteen_digits, double_field, word_field, decimal_field, bytes_field, doubles_field, key_text};
 
+use dt_record::Key;
 use std::alloc::AllocError;
 
 fn put_name(out: &mut Vec<u8>, name: &str) -> Result<(), AllocError>
@@ -32,9 +33,28 @@ fn put_eight_digits(out: &mut Vec<u8>, number: u32) -> Result<(), AllocError>
     out.extend_from_slice(&digits)
 }
 
+/// Appends a decimal number. After want of memory `out` may end in a part of what was to come, as
+/// after each of these functions.
+pub fn put_number(out: &mut Vec<u8>, number: u64) -> Result<(), AllocError>
+    ensures { OnOk result (out.new.items ≡ out.old.items ++ decimal number) }
+{
+    let text = format!(in *out.allocator(); "{number}")?;
+    out.extend_from_slice(text.as_bytes())
+}
+
+/// Appends a key as `stamp.hart.seq`.
+#[tactic(auto, unfolding(crate::specs::Line::key_text))]
+pub fn put_key(out: &mut Vec<u8>, key: Key) -> Result<(), AllocError>
+    ensures { OnOk result (out.new.items ≡ out.old.items ++ key_text key) }
+{
+    let Key { stamp, hart, seq } = key;
+    let text = format!(in *out.allocator(); "{stamp}.{hart}.{seq}")?;
+    out.extend_from_slice(text.as_bytes())
+}
+
 /// Appends ` name=` and 16 hexadecimal digits.
 #[tactic(auto, unfolding(crate::specs::Line::double_field))]
-pub(crate) fn put_double(out: &mut Vec<u8>, name: &str, number: u64) -> Result<(), AllocError>
+pub fn put_double(out: &mut Vec<u8>, name: &str, number: u64) -> Result<(), AllocError>
     ensures { OnOk result (out.new.items ≡ out.old.items ++ double_field name.now number) }
 {
     put_name(out, name)?;
@@ -52,12 +72,11 @@ pub(crate) fn put_word(out: &mut Vec<u8>, name: &str, number: u32) -> Result<(),
 
 /// Appends ` name=` and a decimal number.
 #[tactic(auto, unfolding(crate::specs::Line::decimal_field))]
-pub(crate) fn put_decimal(out: &mut Vec<u8>, name: &str, number: u64) -> Result<(), AllocError>
+pub fn put_decimal(out: &mut Vec<u8>, name: &str, number: u64) -> Result<(), AllocError>
     ensures { OnOk result (out.new.items ≡ out.old.items ++ decimal_field name.now number) }
 {
     put_name(out, name)?;
-    let text = format!(in *out.allocator(); "{number}")?;
-    out.extend_from_slice(text.as_bytes())
+    put_number(out, number)
 }
 
 /// Appends ` name=` and two hexadecimal digits for each byte of a line.

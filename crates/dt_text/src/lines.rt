@@ -1,9 +1,9 @@
 ghost use Rattle.std.specs.Prelude.{◌≡◌, ◌++◌, OnOk, IfOk};
-ghost use Rattle.dt_text.specs.Line.{retire_fields, body_text, key_text, line_text};
+ghost use Rattle.dt_text.specs.Line.{retire_fields, body_text, line_text};
 
-use crate::fields::{put_bytes, put_decimal, put_double, put_doubles, put_word};
+use crate::fields::{put_bytes, put_decimal, put_double, put_doubles, put_key, put_word};
 use crate::printed::Printed;
-use dt_record::{Body, Record, Retire};
+use dt_record::{Body, Key, Record, Retire};
 use std::alloc::{AllocError, Global};
 
 fn put_retire(out: &mut Vec<u8>, retire: &Retire) -> Result<(), AllocError>
@@ -148,16 +148,6 @@ fn put_body(out: &mut Vec<u8>, body: &Body) -> Result<(), AllocError>
     }
 }
 
-#[tactic(auto, unfolding(crate::specs::Line::key_text))]
-fn put_key(out: &mut Vec<u8>, event: &Record, seq: u32) -> Result<(), AllocError>
-    ensures { OnOk result (out.new.items ≡ out.old.items ++ key_text seq event.now) }
-{
-    let stamp = event.stamp;
-    let hart = event.hart;
-    let text = format!(in *out.allocator(); "{stamp}.{hart}.{seq}")?;
-    out.extend_from_slice(text.as_bytes())
-}
-
 /// The line of a record, with its line feed. `seq` is the record's number among its hart's
 /// records, from 0.
 #[tactic(auto, unfolding(crate::specs::Line::line_text))]
@@ -165,7 +155,14 @@ pub fn line(alloc: Global, event: &Record, seq: u32) -> Result<Printed, AllocErr
     ensures { IfOk result (λ printed. printed ≡ line_text seq event.now) }
 {
     let mut text = Vec::new(alloc);
-    put_key(&mut text, event, seq)?;
+    put_key(
+        &mut text,
+        Key {
+            stamp: event.stamp,
+            hart: event.hart,
+            seq,
+        },
+    )?;
     text.push(b' ')?;
     put_body(&mut text, &event.body)?;
     text.push(b'\n')?;

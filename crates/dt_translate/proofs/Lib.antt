@@ -1,0 +1,5 @@
+mod Choices
+mod Histories
+mod Moments
+mod Newests
+mod Pages

@@ -1,0 +1,5 @@
+pub mod Fetches
+pub mod Laws
+pub mod Newest
+pub mod Outcomes
+pub mod Worked

@@ -1,0 +1,14 @@
+//! Translation and fetch over a span of moments: which outcomes and which halfwords some moment
+//! gives, and the newest moment that does.
+#![tactic(auto)]
+
+mod laws;
+mod outcomes;
+mod searches;
+mod tables;
+#[cfg(test)]
+mod tests;
+
+pub use laws::{first_writes_decide, untranslated_stays};
+pub use outcomes::outcome;
+pub use searches::{allowed, fetch};

@@ -1,0 +1,61 @@
+ghost use Rattle.std.specs.Prelude.{◌≡◌, ◌≤◌, ◌<◌, ◌+◌, ◌%◌, length, true};
+ghost use Rattle.dt_walk.specs.Walk.{CanWalk};
+ghost use Rattle.dt_translate.specs.Fetches.{LeadsToHalf};
+ghost use Rattle.dt_translate.specs.Outcomes.{half_at, is_reachable, outcome_at, reached};
+
+use crate::tables::Tables;
+use dt_record::{RAM_END, RAM_START};
+use dt_versions::Moments;
+use dt_walk::{WalkAnswer, WalkArgs, walk};
+
+/// Whether an access may reach the physical address. Devices lie below RAM.
+fn is_reachable(ram_only: bool, addr: u64) -> bool
+    ensures { result ≡ is_reachable ram_only addr }
+{
+    let is_in_ram = RAM_START <= addr && addr < RAM_END;
+    is_in_ram || (!ram_only && addr < RAM_START)
+}
+
+fn reached(ram_only: bool, answer: WalkAnswer) -> WalkAnswer
+    ensures { result ≡ reached ram_only answer }
+{
+    match answer {
+        WalkAnswer::Page(addr) if !is_reachable(ram_only, addr) => WalkAnswer::AccessFault,
+        _ => answer,
+    }
+}
+
+/// The outcome of a translation after the first k writes: the walk's answer, with an access fault
+/// in place of a page address that is neither in RAM nor a device's or, with `ram_only`, not in RAM.
+/// `ram_only` is for fetches, LR, SC and atomics.
+#[tactic(auto, unfolding(crate::specs::Outcomes::outcome_at))]
+pub fn outcome(moments: &Moments, k: u32, a: WalkArgs, ram_only: bool) -> WalkAnswer
+    requires within { k ≤ length moments.now.writes }
+    requires args { CanWalk a }
+    ensures { result ≡ outcome_at moments.now.image moments.now.writes k a ram_only }
+{
+    let tables = Tables { moments, moment: k };
+    reached(ram_only, walk(&tables, a))
+}
+
+/// The outcome for a fetch of a halfword, which lies in RAM as a whole.
+pub fn fetch_outcome(moments: &Moments, k: u32, a: WalkArgs) -> WalkAnswer
+    requires within { k ≤ length moments.now.writes }
+    requires args { CanWalk a }
+    requires even { a.va % 2 ≡ 0 }
+    ensures value { result ≡ outcome_at moments.now.image moments.now.writes k a true }
+    ensures leads { LeadsToHalf result }
+{
+    outcome(moments, k, a, true)
+}
+
+/// The halfword after the first k writes.
+#[tactic(auto, unfolding(crate::specs::Outcomes::half_at))]
+pub fn half(moments: &Moments, k: u32, addr: u64) -> u16
+    requires within { k ≤ length moments.now.writes }
+    requires in_ram { 0x8000_0000 ≤ addr }
+    requires before_end { addr + 1 < 0x8400_0000 }
+    ensures { result ≡ half_at moments.now.image moments.now.writes k addr }
+{
+    u16::from_le_bytes([moments.byte(k, addr), moments.byte(k, addr + 1)])
+}
