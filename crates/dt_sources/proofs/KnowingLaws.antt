@@ -1,12 +1,14 @@
 use Rattle.std.proofs.Common.{ℕ, ◌≡◌, ◌<◌, ◌≤◌, ◌⊎◌, false, Option, Some, None, List, [], ◌∷◌, length, take, refl, sym, ap, ◌∙◌, subst, inl, inr, arith}
 use Rattle.std.specs.Prelude.{IfSome}
-use Rattle.std.proofs.lemmas.Bool.{cases_Bool, cases_lt}
+use Rattle.std.proofs.lemmas.Bool.{cases_Bool, cases_lt, cond-true, false≢true}
 use Rattle.std.proofs.lemmas.Bool.Decides.{nat_tests}
 use Rattle.std.proofs.lemmas.List.{take_all, take-append-le}
 use Rattle.std.proofs.lemmas.Option.{slice_get_within}
 use Rattle.dt_record.specs.declared.keys.Key.{Key}
 use Rattle.dt_record.specs.declared.writes.Write.{Write}
+use Rattle.dt_record.specs.declared.origins.Origin.{Origin}
 use Rattle.dt_record.specs.declared.origins.Origin.TheVariants as origin
+use Rattle.dt_record.specs.Memory.{covers}
 use Rattle.dt_record.specs.Keys.{key_below, KeyBelow}
 use Rattle.dt_record.specs.KeyLaws.{key_below-itself, key_below-back}
 use Rattle.dt_record.specs.Actions.{Action}
@@ -14,7 +16,7 @@ use Rattle.dt_record.specs.LoadSources.{At, rank_below, origin_at}
 use Rattle.dt_versions.specs.Laws.{source_rank}
 use Rattle.dt_local.specs.LocalMemory.{newest_of, greater}
 use Rattle.dt_sources.specs.Choice.{then_action}
-use Rattle.dt_sources.specs.Knowing.{HadFrom, WroteBefore, IsKnownKey, IsGreatest, IsAddedKey, KnowingGoesOn}
+use Rattle.dt_sources.specs.Knowing.{HadFrom, WroteBefore, IsKnownKey, IsGreatest, IsAddedKey, KnowingGoesOn, write_key, covering_key, NotesAreAdded}
 use Rattle.dt_sources.proofs.Choices.{earlier_load, next_action}
 use Rattle.dt_sources.proofs.Places.{slice_get-append_left, slice_get-append_seam}
 use Rattle.dt_sources.proofs.Ranks.{rank_below-itself, not_below_image, not_below-chain}
@@ -168,4 +170,53 @@ knowing = record {
               | inr wrote ↦ inr wrote.0
             ]) (adds byte).one_of_them);
       });
+}
+
+had_is_added : (writes : List Write) (actions : List Action) (moment : ℕ) (action : Action) (next after : Key) (byte : ℕ)
+    → IfSome (write_key (origin_at writes actions moment action byte)) (IsAddedKey writes actions moment action next after byte)
+had_is_added writes actions moment action next after byte = from (origin_at writes actions moment action byte) refl
+  where
+    from : (o : Option Origin) → origin_at writes actions moment action byte ≡ o → IfSome (write_key o) (IsAddedKey writes actions moment action next after byte)
+    from None is = tt
+    from (Some origin.Image) is = tt
+    from (Some (origin.Write key)) is = inl is
+    from (Some (origin.Store seq)) is = tt
+
+not_below_had : (o : Option Origin) (key : Key) → o ≡ Some (origin.Write key) → rank_below (source_rank (write_key o)) (At key) ≡ false
+not_below_had o key is = ap (λ p. rank_below (source_rank (write_key p)) (At key)) is ∙ key_below-itself key
+
+pub notes : NotesAreAdded
+notes = record {
+  reads = λ writes actions moment action next after byte none. record {
+    bound = λ key added. elim added [
+      | inl had ↦ not_below_had (origin_at writes actions moment action byte) key had
+      | inr wrote ↦ absurd (false≢true (sym wrote.1 ∙ none key wrote.0))
+    ];
+    one_of_them = had_is_added writes actions moment action next after byte;
+  };
+  writes = λ writes actions moment action next after byte w there is hart rises one.
+      let had = write_key (origin_at writes actions moment action byte) in
+      let Added : Key → Type 0 = IsAddedKey writes actions moment action next after byte in
+      record {
+        bound = λ key added. elim added [
+          | inl from ↦ not_below-chain (source_rank (greater had (covering_key byte w))) (source_rank had) (At key) (greater_left had (covering_key byte w))
+              (not_below_had (origin_at writes actions moment action byte) key from)
+          | inr wrote ↦
+              let same : wrote.0.write ≡ w = one key wrote.0 wrote.1 in
+              let its : w.key ≡ key = ap (λ (v : Write). v.key) (sym same) ∙ wrote.0.is_its in
+              let covered : covering_key byte w ≡ Some key =
+              cond-true (covers byte w) (Some w.key) None (ap (λ (v : Write). covers byte v) (sym same) ∙ wrote.0.covering) ∙ ap (λ k. Some k) its in
+              not_below-chain (source_rank (greater had (covering_key byte w))) (source_rank (covering_key byte w)) (At key) (greater_right had (covering_key byte w))
+              (ap (λ o. rank_below (source_rank o) (At key)) covered ∙ key_below-itself key)
+        ];
+        one_of_them = greater_one Added had (covering_key byte w) (had_is_added writes actions moment action next after byte)
+            (elim (cases_Bool (covers byte w)) [
+              | inl covering ↦
+                  let before : KeyBelow w.key after = subst (λ k. KeyBelow k after) (sym is) rises in
+                  let own : w.key.hart ≡ after.hart = ap (λ (k : Key). k.hart) is ∙ hart in
+                  let not_before : key_below w.key next ≡ false = ap (λ k. key_below k next) is ∙ key_below-itself next in
+                  rw covering (inr (record { write = w; there = there; is_its = refl; own = own; before = before; covering = covering }, not_before))
+              | inr elsewhere ↦ rw elsewhere tt
+            ]);
+      };
 }

@@ -1,8 +1,9 @@
-use Rattle.std.specs.Prelude.{ℕ, ◌≡◌, ◌<◌, ◌⊎◌, ◌↔◌, false, Option, Some, None, List, [], length, take, slice_get, IsTrue, IfSome, Contains}
+use Rattle.std.specs.Prelude.{ℕ, ◌≡◌, ◌<◌, ◌⊎◌, ◌↔◌, false, if◌then◌else◌, Option, Some, None, List, [], length, take, slice_get, IsTrue, IfSome, Contains}
 use Rattle.std.specs.List.{list_all}
 use Rattle.dt_record.specs.declared.keys.Key.{Key}
 use Rattle.dt_record.specs.declared.writes.Write.{Write}
 use Rattle.dt_record.specs.declared.accesses.LoadAsk.{LoadAsk}
+use Rattle.dt_record.specs.declared.origins.Origin.{Origin}
 use Rattle.dt_record.specs.declared.origins.Origin.TheVariants as origin
 use Rattle.dt_record.specs.Keys.{KeyBelow, key_below}
 use Rattle.dt_record.specs.Memory.{covers}
@@ -92,3 +93,26 @@ pub record KnowingGoesOn : Type 0 where
       → ((byte : ℕ) → IsGreatest (IsAddedKey writes actions (others (length actions)) action next after byte) (added byte))
       → ((byte : ℕ) → newest_of noted byte ≡ greater (newest_of local byte) (added byte))
       → Knows noted writes (then_action actions action) others after
+
+-- the key of the write that a byte came from, where it came from one
+abbrev pub write_key : Option Origin → Option Key
+write_key None = None
+write_key (Some origin.Image) = None
+write_key (Some (origin.Write key)) = Some key
+write_key (Some (origin.Store seq)) = None
+
+-- the key of a write, where it covers the byte
+abbrev pub covering_key : ℕ → Write → Option Key
+covering_key byte w = if covers byte w then Some w.key else None
+
+-- What one more action adds: the key that it had the byte from, where its record makes no write; else
+-- the greater of that and of the write's, where that is the hart's one write from the record on and
+-- before the next.
+pub record NotesAreAdded : Type 0 where
+  pub reads : (writes : List Write) (actions : List Action) (moment : ℕ) (action : Action) (next after : Key) (byte : ℕ)
+      → ((key : Key) → WroteBefore writes after byte key → KeyBelow key next)
+      → IsGreatest (IsAddedKey writes actions moment action next after byte) (write_key (origin_at writes actions moment action byte))
+  pub writes : (writes : List Write) (actions : List Action) (moment : ℕ) (action : Action) (next after : Key) (byte : ℕ) (w : Write)
+      → Contains writes w → w.key ≡ next → next.hart ≡ after.hart → KeyBelow next after
+      → ((key : Key) (own : WroteBefore writes after byte key) → key_below key next ≡ false → own.write ≡ w)
+      → IsGreatest (IsAddedKey writes actions moment action next after byte) (greater (write_key (origin_at writes actions moment action byte)) (covering_key byte w))

@@ -1,6 +1,6 @@
 //! Laws of the definitions, for the crates above. The functions do nothing.
 ghost use Rattle.dt_sources.specs.Choice.{LeastChoiceIsLeast, RefusalIsExact, FrontsHaveSources, LeastChoiceGoesOn};
-ghost use Rattle.dt_sources.specs.Knowing.{KnownIsFloor, KnownFitIsFit, KnowingGoesOn};
+ghost use Rattle.dt_sources.specs.Knowing.{KnownIsFloor, KnownFitIsFit, KnowingGoesOn, NotesAreAdded};
 
 use dt_versions::sources_rise;
 
@@ -42,4 +42,9 @@ pub fn known_fit_is_fit()
 /// Local memory goes on knowing what it has to, where what an action had and wrote is noted.
 pub fn knowing_goes_on()
     ensures { KnowingGoesOn }
+{}
+
+/// What is to be noted of an action: what it had a byte from and, where its record writes, its own key.
+pub fn notes_are_added()
+    ensures { NotesAreAdded }
 {}

@@ -3,7 +3,7 @@ ghost use Rattle.dt_sources.specs.Finding.{is_load_place};
 
 use crate::{
     Found, LoadAsk, Origin, Sources, find, fronts_have_sources, knowing_goes_on, known_fit_is_fit,
-    known_is_floor, least_choice_goes_on, least_choice_is_least, refusal_is_exact,
+    known_is_floor, least_choice_goes_on, least_choice_is_least, notes_are_added, refusal_is_exact,
 };
 use dt_local::Local;
 use dt_record::{Image, Key, Write};
@@ -211,4 +211,5 @@ fn laws_are_called() {
     known_is_floor();
     known_fit_is_fit();
     knowing_goes_on();
+    notes_are_added();
 }
