@@ -25,10 +25,12 @@ pub fn least(events: &[Event], writes: &[Write], loads: usize) -> Option<Moments
 }
 
 fn earlier(best: Option<Moments>, moments: Moments) -> Moments {
-    match best {
-        None => moments,
-        Some([a, b, c]) => [a.min(moments[0]), b.min(moments[1]), c.min(moments[2])],
-    }
+    let old = best.unwrap_or(moments);
+    [
+        old[0].min(moments[0]),
+        old[1].min(moments[1]),
+        old[2].min(moments[2]),
+    ]
 }
 
 fn is_fit(events: &[Event], writes: &[Write], moments: &Moments, loads: usize) -> bool {
