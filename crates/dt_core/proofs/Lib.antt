@@ -1,0 +1,5 @@
+mod Announced
+mod Insertion
+mod Selection
+mod Sorting
+mod Watermark

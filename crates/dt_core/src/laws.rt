@@ -1,0 +1,14 @@
+//! Laws of the definitions, for the crates above. The functions do nothing.
+ghost use Rattle.dt_core.specs.Laws.{WritesBelowMarkAreAll, WritesUntilJudgedAreAll};
+
+/// Every front of the history of sound lists holds exactly the file's writes below its least mark,
+/// and all of them where all harts have ended.
+pub fn writes_below_mark_are_all()
+    ensures { WritesBelowMarkAreAll }
+{}
+
+/// Where a record may be judged by a front of the history, the front's writes up to the record's
+/// cycle are exactly those of the file.
+pub fn writes_until_judged_are_all()
+    ensures { WritesUntilJudgedAreAll }
+{}
