@@ -1,5 +1,11 @@
 mod Announced
+mod Chances
 mod Insertion
+mod Places
+mod Reaches
+mod Runs
 mod Selection
 mod Sorting
+mod Stamps
+mod Telling
 mod Watermark

@@ -1,4 +1,7 @@
+pub mod Judgements
 pub mod Laws
+pub mod Machine
 pub mod Marks
 pub mod Notes
+pub mod Runs
 pub mod Sound

@@ -1,5 +1,5 @@
 -- What notes say of how far each hart has come. All of it is this project's own.
-use Rattle.std.specs.Prelude.{◌≡◌, ℕ, zero, suc, ◌-◌, ◌<◌, ◌⊎◌, ◌==◌, min, Bool, true, false, Option, Some, None, List, length, slice_index, if◌then◌else◌}
+use Rattle.std.specs.Prelude.{◌≡◌, ℕ, zero, suc, ◌-◌, ◌<◌, ◌⊎◌, ◌==◌, ◌&&◌, ◌||◌, nat_lt, min, Bool, true, false, Option, Some, None, List, length, slice_index, if◌then◌else◌}
 use Rattle.std.specs.List.{filter_map, list_any}
 use Rattle.dt_record.specs.declared.writes.Note.{Note}
 use Rattle.dt_record.specs.declared.writes.Note.TheVariants.{Mark, End}
@@ -40,3 +40,8 @@ least_mark (suc hart) notes =
 -- a record of this cycle may be judged: each hart below `harts` has a mark strictly above it, or an End
 abbrev pub CanJudge : ℕ → List Note → ℕ → Type 0
 CanJudge harts notes stamp = (hart : ℕ) → hart < harts → (has_ended hart notes ≡ true) ⊎ (stamp < mark_of hart notes)
+
+-- the same as a test
+abbrev pub can_judge : ℕ → List Note → ℕ → Bool
+can_judge zero notes stamp = true
+can_judge (suc hart) notes stamp = (has_ended hart notes || nat_lt stamp (mark_of hart notes)) && can_judge hart notes stamp

@@ -1,5 +1,8 @@
 //! Laws of the definitions, for the crates above. The functions do nothing.
 ghost use Rattle.dt_core.specs.Laws.{WritesBelowMarkAreAll, WritesUntilJudgedAreAll};
+ghost use Rattle.dt_core.specs.Runs.{EveryRunHolds};
+
+use crate::judgements::Judgement;
 
 /// Every front of the history of sound lists holds exactly the file's writes below its least mark,
 /// and all of them where all harts have ended.
@@ -11,4 +14,11 @@ pub fn writes_below_mark_are_all()
 /// cycle are exactly those of the file.
 pub fn writes_until_judged_are_all()
     ensures { WritesUntilJudgedAreAll }
+{}
+
+/// After any list of steps from the start: the lists are sound, each front of the history holds the
+/// file's writes below its least mark, every outcome is the judgement over all writes of the file,
+/// and every failure that was told is the hart's.
+pub fn every_run_holds<J: Judgement>()
+    ensures { EveryRunHolds J.meaning }
 {}

@@ -3,6 +3,12 @@
 //! has ended.
 #![tactic(auto)]
 
+mod entries;
+mod judgements;
 mod laws;
+mod steps;
 
-pub use laws::{writes_below_mark_are_all, writes_until_judged_are_all};
+pub use entries::Entry;
+pub use judgements::Judgement;
+pub use laws::{every_run_holds, writes_below_mark_are_all, writes_until_judged_are_all};
+pub use steps::{CoreStep, Notes};
