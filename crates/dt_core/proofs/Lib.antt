@@ -1,6 +1,7 @@
 mod Announced
 mod Chances
 mod Insertion
+mod Loops
 mod Places
 mod Reaches
 mod Runs

@@ -208,7 +208,7 @@ fed_more file fed hart r found = ap (records_of hart) (take-next file fed r foun
 
 step_queue : {J : Type 0} (m : Meaning J) (harts : ℕ) (file : List Record) (c : CoreState J) (r : Record) (o : Option (HartState J))
     → AreRecords harts no_stamps file → IsKept m harts file c → slice_get file c.fed ≡ Some r → slice_get c.harts r.hart ≡ o
-    → IsKept m harts file (record c { fed = c.fed + 1; harts = queued c r o })
+    → IsKept m harts file (record c { fed = c.fed + 1; harts = queued c.harts r o })
 step_queue m harts file c r None each kept found at =
     let within = hart_within harts no_stamps file c.fed r each found in
     let past = past_end c.harts r.hart at in
@@ -249,7 +249,7 @@ step_feed m harts file c (Some r) each kept is = step_queue m harts file c r (sl
 -- Take
 
 step_first : {J : Type 0} (m : Meaning J) (harts : ℕ) (file : List Record) (c : CoreState J) (hart : ℕ) (s : HartState J) (queue : List Record)
-    → IsKept m harts file c → slice_get c.harts hart ≡ Some s → s.queue ≡ queue → IsKept m harts file (take_first c hart s queue)
+    → IsKept m harts file c → slice_get c.harts hart ≡ Some s → s.queue ≡ queue → IsKept m harts file (record c { harts = take_first c.harts hart s queue })
 step_first m harts file c hart s [] kept at is = kept
 step_first m harts file c hart s (r ∷ rs) kept at is =
     let t : HartState _ = record s { queue = rs; taken = s.taken ++ r ∷ [] } in
@@ -264,7 +264,7 @@ step_first m harts file c hart s (r ∷ rs) kept at is =
     })
 
 step_take : {J : Type 0} (m : Meaning J) (harts : ℕ) (file : List Record) (c : CoreState J) (hart : ℕ) (o : Option (HartState J))
-    → IsKept m harts file c → slice_get c.harts hart ≡ o → IsKept m harts file (take_of c hart o)
+    → IsKept m harts file c → slice_get c.harts hart ≡ o → IsKept m harts file (record c { harts = take_of c.harts hart o })
 step_take m harts file c hart None kept is = kept
 step_take m harts file c hart (Some s) kept is = step_first m harts file c hart s s.queue kept is refl
 

@@ -40,23 +40,23 @@ with_hart c hart s = record c { harts = slice_set c.harts hart s }
 
 -- Feed: the next record goes to the end of its hart's queue; after the last, the end is fed
 
-abbrev pub queued : {J : Type 0} → CoreState J → Record → Option (HartState J) → List (HartState J)
-queued c r None = c.harts
-queued c r (Some s) = slice_set c.harts r.hart (record s { queue = s.queue ++ r ∷ [] })
+abbrev pub queued : {J : Type 0} → List (HartState J) → Record → Option (HartState J) → List (HartState J)
+queued harts r None = harts
+queued harts r (Some s) = slice_set harts r.hart (record s { queue = s.queue ++ r ∷ [] })
 
 abbrev pub feed_next : {J : Type 0} → CoreState J → Option Record → CoreState J
 feed_next c None = record c { is_ended = true }
-feed_next c (Some r) = record c { fed = c.fed + 1; harts = queued c r (slice_get c.harts r.hart) }
+feed_next c (Some r) = record c { fed = c.fed + 1; harts = queued c.harts r (slice_get c.harts r.hart) }
 
 -- Take: the first record of the queue goes to the end of the taken list
 
-abbrev pub take_first : {J : Type 0} → CoreState J → ℕ → HartState J → List Record → CoreState J
-take_first c hart s [] = c
-take_first c hart s (r ∷ rs) = with_hart c hart (record s { queue = rs; taken = s.taken ++ r ∷ [] })
+abbrev pub take_first : {J : Type 0} → List (HartState J) → ℕ → HartState J → List Record → List (HartState J)
+take_first harts hart s [] = harts
+take_first harts hart s (r ∷ rs) = slice_set harts hart (record s { queue = rs; taken = s.taken ++ r ∷ [] })
 
-abbrev pub take_of : {J : Type 0} → CoreState J → ℕ → Option (HartState J) → CoreState J
-take_of c hart None = c
-take_of c hart (Some s) = take_first c hart s s.queue
+abbrev pub take_of : {J : Type 0} → List (HartState J) → ℕ → Option (HartState J) → List (HartState J)
+take_of harts hart None = harts
+take_of harts hart (Some s) = take_first harts hart s s.queue
 
 -- Announce: what a worker has to tell of its harts
 
@@ -106,13 +106,16 @@ ends_with key None = false
 ends_with key (Some s) = has_failed s.outcomes && is_key key (last_judged s)
 
 -- every record of the hart with a stamp below the cut was judged without a reason
-abbrev pub is_crossed : {J : Type 0} → List Record → ℕ → ℕ → Option (HartState J) → Bool
-is_crossed file hart cut None = false
-is_crossed file hart cut (Some s) = list_all (λ r. nat_le cut r.stamp) (drop (prefix_len (λ o. o) s.outcomes) (records_of hart file))
+abbrev pub is_crossed : List Record → ℕ → ℕ → List Bool → Bool
+is_crossed file hart cut outcomes = list_all (λ r. nat_le cut r.stamp) (drop (prefix_len (λ o. o) outcomes) (records_of hart file))
+
+abbrev pub has_crossed : {J : Type 0} → List Record → ℕ → ℕ → Option (HartState J) → Bool
+has_crossed file hart cut None = false
+has_crossed file hart cut (Some s) = is_crossed file hart cut s.outcomes
 
 -- a Cut or a Failure that is true of the worker's judged records
 abbrev pub is_true : {J : Type 0} → CoreState J → ℕ → Note → Bool
-is_true c worker (Cut hart cut) = is_mine (length c.seen) worker hart && is_crossed c.file hart cut (slice_get c.harts hart)
+is_true c worker (Cut hart cut) = is_mine (length c.seen) worker hart && has_crossed c.file hart cut (slice_get c.harts hart)
 is_true c worker (Failure key) = is_mine (length c.seen) worker key.hart && ends_with key (slice_get c.harts key.hart)
 is_true c worker _ = false
 
@@ -154,7 +157,7 @@ judge_of m c hart (Some s) = judge_next m c hart s (seen_notes c hart) (next_rec
 -- the state after one step
 abbrev pub step_state : {J : Type 0} → Meaning J → CoreState J → CoreStep → CoreState J
 step_state m c Feed = feed_next c (slice_get c.file c.fed)
-step_state m c (Take hart) = take_of c hart (slice_get c.harts hart)
+step_state m c (Take hart) = record c { harts = take_of c.harts hart (slice_get c.harts hart) }
 step_state m c (Announce worker extra) = announce_of c worker extra
 step_state m c (Look worker) = record c { seen = slice_set c.seen worker (length c.history) }
 step_state m c (Judge hart) = judge_of m c hart (slice_get c.harts hart)

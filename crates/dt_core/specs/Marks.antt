@@ -45,3 +45,8 @@ CanJudge harts notes stamp = (hart : ℕ) → hart < harts → (has_ended hart n
 abbrev pub can_judge : ℕ → List Note → ℕ → Bool
 can_judge zero notes stamp = true
 can_judge (suc hart) notes stamp = (has_ended hart notes || nat_lt stamp (mark_of hart notes)) && can_judge hart notes stamp
+
+-- the mark after one more note
+abbrev pub mark_with : ℕ → Option ℕ → ℕ
+mark_with mark None = mark
+mark_with mark (Some stamp) = stamp

@@ -3,10 +3,16 @@
 //! has ended.
 #![tactic(auto)]
 
+mod cores;
 mod entries;
+mod harts;
 mod judgements;
 mod laws;
+mod notes;
 mod steps;
+mod tells;
+mod truths;
+mod writes;
 
 pub use entries::Entry;
 pub use judgements::Judgement;
