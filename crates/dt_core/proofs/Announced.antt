@@ -204,11 +204,12 @@ IsFront-writes hart records taken history front is =
     let whole : hart_writes hart (announced history) ≡ held ++ more =
     ap (λ h. hart_writes hart (announced h)) (sym is.begins.1) ∙ ap (hart_writes hart) (filter_map-append write_in front later)
     ∙ filter-append (λ (w : Write). w.key.hart == hart) (announced front) (announced later) in
-    let told = is.told.wrote in
-    (more ++ (told.0 ++ most.0),
-    sym (append_assoc held more (told.0 ++ most.0)) ∙ ap (λ ws. ws ++ (told.0 ++ most.0)) (sym whole)
-    ∙ sym (append_assoc (hart_writes hart (announced history)) told.0 most.0) ∙ ap (λ ws. ws ++ most.0) told.1
-    ∙ most.1 ∙ ap writes_by is.first.1)
+    let told = is.told.wrote in (
+      more ++ (told.0 ++ most.0),
+      sym (append_assoc held more (told.0 ++ most.0)) ∙ ap (λ ws. ws ++ (told.0 ++ most.0)) (sym whole)
+          ∙ sym (append_assoc (hart_writes hart (announced history)) told.0 most.0) ∙ ap (λ ws. ws ++ most.0) told.1
+          ∙ most.1 ∙ ap writes_by is.first.1,
+    )
 
 pub IsFront-ended : (hart : ℕ) (records taken : List Record) (history front : List Note) → IsFront hart records taken history front
     → has_ended hart front ≡ true → hart_writes hart (announced front) ≡ writes_by records

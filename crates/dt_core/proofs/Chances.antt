@@ -56,6 +56,7 @@ least_above (suc n) notes stamp least can some =
     reached : (has_ended n notes ≡ true) ⊎ (stamp < mark_of n notes) → has_ended n notes ≡ false → stamp < mark_of n notes
     reached (inl ended) open_hart = absurd (both_ways (has_ended n notes) open_hart ended)
     reached (inr above) open_hart = above
+
     lesser : (o : Option ℕ) → stamp < mark_of n notes → ((low : ℕ) → o ≡ Some low → stamp < low) → stamp < least_with (mark_of n notes) o
     lesser None mark rest = mark
     lesser (Some low) mark rest = let under = rest low refl in omega arith
@@ -94,9 +95,11 @@ AreJudged-next m writes first (q ∷ qs) [] last r good found are =
     (subst (λ (t : Record). AreJudged m writes first (q ∷ qs) (m.allows first writes t ∷ []) (m.after first writes t)) same (refl, (λ none. refl), refl))
 AreJudged-next m writes first [] (o ∷ os) last r good found are = absurd are
 AreJudged-next m writes first (q ∷ qs) (o ∷ os) last r good found are =
-    let parts = has_failed-parts o os good in
-    (are.0, (λ none. absurd (let bad : true ≡ false = sym parts.0 ∙ none in let never : ⊥ = cc in never)),
-    AreJudged-next m writes (m.after first writes q) qs os last r parts.1 found are.2)
+    let parts = has_failed-parts o os good in (
+      are.0,
+      (λ none. absurd (let bad : true ≡ false = sym parts.0 ∙ none in let never : ⊥ = cc in never)),
+      AreJudged-next m writes (m.after first writes q) qs os last r parts.1 found are.2,
+    )
 
 -- where the last outcome is a failure, that is the failure over all records
 pub failure_from-last : {J : Type 0} (m : Meaning J) (writes : List Write) (seq : ℕ) (first : J) (rs : List Record) (os : List Bool) (last : J) (r : Record)

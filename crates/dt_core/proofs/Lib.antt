@@ -3,6 +3,7 @@ mod Chances
 mod Insertion
 mod Loops
 mod Places
+mod Reached
 mod Reaches
 mod Runs
 mod Selection

@@ -1,4 +1,4 @@
-use Rattle.std.proofs.Common.{ℕ, ◌≡◌, ◌+◌, ◌-◌, ◌<◌, ◌≤◌, ◌==◌, Bool, true, false, not, cond, Option, Some, None, List, [], ◌∷◌, ◌++◌, length, get_or, take, drop, suc, zero, refl, sym, ap, ◌∙◌, subst, inl, inr, arith, min, eq-eqb}
+use Rattle.std.proofs.Common.{ℕ, ◌≡◌, ◌+◌, ◌-◌, ◌<◌, ◌≤◌, ◌==◌, Bool, true, false, not, cond, Option, Some, None, List, [], ◌∷◌, ◌++◌, length, get_or, take, drop, set, suc, zero, refl, sym, ap, ◌∙◌, subst, inl, inr, arith, min, eq-eqb}
 use Rattle.std.specs.Prelude.{slice_index, option_to_list, if◌then◌else◌}
 use Rattle.std.specs.List.{slice_get, prefix_len, cons_option, filter_map, insert}
 use Rattle.std.proofs.lemmas.Bool.{cases_Bool, cond-true, cond-false}
@@ -12,7 +12,7 @@ use Rattle.dt_record.specs.Keys.{key_below}
 use Rattle.dt_record.specs.Writes.{insert_write, write_of_record, counted, writes_after}
 use Rattle.dt_core.specs.Marks.{stamp_in, marks_of, mark_of, mark_with}
 use Rattle.dt_core.specs.declared.entries.Entry.{Entry}
-use Rattle.dt_core.specs.Machine.{HartState, is_mine, news_of, told}
+use Rattle.dt_core.specs.Machine.{HartState, take_first, take_of, is_mine, news_of, told}
 use Rattle.dt_core.specs.Notes.{notes_in, entries_of}
 use Rattle.dt_core.specs.Own.{AreOwn}
 use Rattle.dt_core.specs.Sound.{writes_by}
@@ -115,3 +115,25 @@ told-next workers worker is_ended harts i s all next total found is was =
     let more : i + 1 ≡ suc i = omega arith in
     ap (λ n. told workers worker is_ended n (drop n harts) next) more ∙ ap (told workers worker is_ended (suc i) (drop (suc i) harts)) is
     ∙ sym (ap (λ ss. told workers worker is_ended i ss all) (drop-at harts i s found)) ∙ was
+
+set_itself : {X : Type 0} (xs : List X) (i : ℕ) (x : X) → slice_get xs i ≡ Some x → set xs i x ≡ xs
+set_itself [] i x found = refl
+set_itself (y ∷ ys) zero x found = ap (λ z. z ∷ ys) (let same : x ≡ y = cc in same)
+set_itself (y ∷ ys) (suc i) x found = ap (λ zs. y ∷ zs) (set_itself ys i x found)
+
+taken-first : {J : Type 0} (harts : List (HartState J)) (hart : ℕ) (s t : HartState J) (queue : List Record) → slice_get harts hart ≡ Some s → s.queue ≡ queue
+    → ((r : Record) (rs : List Record) → s.queue ≡ r ∷ rs → t ≡ record s { queue = rs; taken = s.taken ++ r ∷ [] }) → (s.queue ≡ [] → t ≡ s)
+    → set harts hart t ≡ take_first harts hart s queue
+taken-first harts hart s t [] found is some none = ap (set harts hart) (none is) ∙ set_itself harts hart s found
+taken-first harts hart s t (r ∷ rs) found is some none = ap (set harts hart) (some r rs is)
+
+pub taken-step : {J : Type 0} (harts : List (HartState J)) (hart i : ℕ) (s t : HartState J) → i ≡ hart → slice_get harts hart ≡ Some s
+    → ((r : Record) (rs : List Record) → s.queue ≡ r ∷ rs → t ≡ record s { queue = rs; taken = s.taken ++ r ∷ [] }) → (s.queue ≡ [] → t ≡ s)
+    → set harts i t ≡ take_of harts hart (slice_get harts hart)
+taken-step harts hart i s t place found some none =
+    ap (λ n. set harts n t) place ∙ taken-first harts hart s t s.queue found refl some none ∙ sym (ap (take_of harts hart) found)
+
+pub slice_get-at : {X : Type 0} (xs : List X) (i : ℕ) (d : X) → i < length xs → slice_get xs i ≡ Some (get_or xs i d)
+slice_get-at [] i d within = absurd (omega arith)
+slice_get-at (x ∷ xs) zero d within = refl
+slice_get-at (x ∷ xs) (suc i) d within = slice_get-at xs i d (omega arith)

@@ -79,7 +79,7 @@ judged_all m harts file c hart s each kept found =
     subst (λ (rs : List Record). AreJudged m (writes_of file) (m.opening hart) rs s.outcomes s.state) whole
     (AreJudged-more m (writes_of file) (m.opening hart) s.taken (s.queue ++ records_of hart (drop c.fed file)) s.outcomes s.state (kept.judged hart s found))
 
-HoldsAfter-kept : {J : Type 0} (m : Meaning J) (harts : ℕ) (file : List Record) (c : CoreState J)
+pub HoldsAfter-kept : {J : Type 0} (m : Meaning J) (harts : ℕ) (file : List Record) (c : CoreState J)
     → AreRecords harts no_stamps file → IsKept m harts file c → HoldsAfter m harts file c
 HoldsAfter-kept m harts file c each kept =
     let sound = IsKept-sound m harts file c kept in record {
@@ -175,7 +175,7 @@ nothing_yet : {J : Type 0} (state : J) (o : Option (HartState J)) → ((s : Hart
 nothing_yet state None fresh = refl
 nothing_yet state (Some s) fresh = ap (λ t. taken_in (Some t) ++ queue_in (Some t)) (fresh s refl)
 
-IsKept-opening : {J : Type 0} (m : Meaning J) (harts workers : ℕ) (file : List Record) → IsKept m harts file (opening_state m harts workers file)
+pub IsKept-opening : {J : Type 0} (m : Meaning J) (harts workers : ℕ) (file : List Record) → IsKept m harts file (opening_state m harts workers file)
 IsKept-opening m harts workers file = record {
   size = new_harts-length m harts;
   same = refl;
@@ -442,7 +442,7 @@ IsKept-step m harts file c (Look worker) law each kept =
     record { size = kept.size; same = kept.same; few = kept.few; ended = kept.ended; kept = kept.kept; told = kept.told; judged = kept.judged }
 IsKept-step m harts file c (Judge hart) law each kept = step_judge m harts file c hart (slice_get c.harts hart) law each kept refl
 
-IsKept-run : {J : Type 0} (m : Meaning J) (harts : ℕ) (file : List Record) (c : CoreState J) (steps : List CoreStep)
+pub IsKept-run : {J : Type 0} (m : Meaning J) (harts : ℕ) (file : List Record) (c : CoreState J) (steps : List CoreStep)
     → ReadsNoLaterWrites m → AreRecords harts no_stamps file → IsKept m harts file c → IsKept m harts file (run_steps m c steps)
 IsKept-run m harts file c [] law each kept = kept
 IsKept-run m harts file c (s ∷ ss) law each kept = IsKept-run m harts file (step_state m c s) ss law each (IsKept-step m harts file c s law each kept)

@@ -14,7 +14,6 @@ record IsFirst (w : Write) (ws : List Write) : Type 0 where
   sorted : by_key ws ≡ insert_write w (by_key rest)
   same : (hart : ℕ) → hart_writes hart ws ≡ hart_writes hart (w ∷ rest)
 
-
 IsFirst-from : (w : Write) (more ws : List Write) → hart_writes w.key.hart ws ≡ w ∷ more → IsFirst w ws
 IsFirst-from w more [] is = absurd (let never : ⊥ = cc in never)
 IsFirst-from w more (v ∷ vs) is = elim (cases_Bool (v.key.hart == w.key.hart)) [

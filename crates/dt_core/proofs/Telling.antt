@@ -80,9 +80,10 @@ pub IsTold-writes : (file : List Record) (taken : ℕ → List Record) (fails : 
     → IsTold file taken fails notes → list_all (λ (w : Write). w.key.hart == hart) ws ≡ true
     → IsPrefix (hart_writes hart (announced notes) ++ ws) (writes_by (taken hart))
     → IsTold file taken fails (notes ++ map Wrote ws) × (hart_writes hart (announced (notes ++ map Wrote ws)) ≡ hart_writes hart (announced notes) ++ ws)
-IsTold-writes file taken fails notes hart [] told own fits =
-    (subst (λ (ns : List Note). IsTold file taken fails ns) (sym (append-nil notes)) told,
-    ap (λ ns. hart_writes hart (announced ns)) (append-nil notes) ∙ sym (append-nil _))
+IsTold-writes file taken fails notes hart [] told own fits = (
+  subst (λ (ns : List Note). IsTold file taken fails ns) (sym (append-nil notes)) told,
+  ap (λ ns. hart_writes hart (announced ns)) (append-nil notes) ∙ sym (append-nil _),
+)
 IsTold-writes file taken fails notes hart (w ∷ ws) told own fits =
     let parts = and_parts (w.key.hart == hart) (list_all (λ (v : Write). v.key.hart == hart) ws) own in
     let held = hart_writes hart (announced notes) in
@@ -90,9 +91,11 @@ IsTold-writes file taken fails notes hart (w ∷ ws) told own fits =
     let follows : MayFollow file taken fails notes (Wrote w) = λ h. elim (cases_Bool (w.key.hart == h)) [
       | inl own_hart ↦
           let same : hart ≡ h = sym (eqb-true w.key.hart hart parts.0) ∙ eqb-true w.key.hart h own_hart in
-          subst (λ (k : ℕ). IsPrefix (hart_writes k (announced notes) ++ hart_writes k (w ∷ [])) (writes_by (taken k))) same
-          (ws ++ fits.0, ap (λ vs. (held ++ vs) ++ (ws ++ fits.0)) mine ∙ sym (append_assoc (held ++ w ∷ []) ws fits.0)
-          ∙ ap (λ vs. vs ++ fits.0) (append_assoc held (w ∷ []) ws) ∙ fits.1)
+          subst (λ (k : ℕ). IsPrefix (hart_writes k (announced notes) ++ hart_writes k (w ∷ [])) (writes_by (taken k))) same (
+            ws ++ fits.0,
+            ap (λ vs. (held ++ vs) ++ (ws ++ fits.0)) mine ∙ sym (append_assoc (held ++ w ∷ []) ws fits.0)
+                ∙ ap (λ vs. vs ++ fits.0) (append_assoc held (w ∷ []) ws) ∙ fits.1,
+          )
       | inr other ↦
           let none : hart_writes h (w ∷ []) ≡ [] = filter-drop (λ (v : Write). v.key.hart == h) w [] other in
           subst (λ (vs : List Write). IsPrefix vs (writes_by (taken h))) (sym (ap (λ vs. hart_writes h (announced notes) ++ vs) none ∙ append-nil _)) (told.harts h).wrote
@@ -102,6 +105,7 @@ IsTold-writes file taken fails notes hart (w ∷ ws) told own fits =
     let regroup : (held ++ w ∷ []) ++ ws ≡ held ++ w ∷ ws = append_assoc held (w ∷ []) ws in
     let rest = IsTold-writes file taken fails (notes ++ Wrote w ∷ []) hart ws next parts.1
     (fits.0, ap (λ vs. (vs ++ ws) ++ fits.0) grown ∙ ap (λ vs. vs ++ fits.0) regroup ∙ fits.1) in
-    let joined : (notes ++ Wrote w ∷ []) ++ map Wrote ws ≡ notes ++ map Wrote (w ∷ ws) = append_assoc notes (Wrote w ∷ []) (map Wrote ws) in
-    (subst (λ (ns : List Note). IsTold file taken fails ns) joined rest.0,
-    ap (λ ns. hart_writes hart (announced ns)) (sym joined) ∙ rest.1 ∙ ap (λ vs. vs ++ ws) grown ∙ regroup)
+    let joined : (notes ++ Wrote w ∷ []) ++ map Wrote ws ≡ notes ++ map Wrote (w ∷ ws) = append_assoc notes (Wrote w ∷ []) (map Wrote ws) in (
+      subst (λ (ns : List Note). IsTold file taken fails ns) joined rest.0,
+      ap (λ ns. hart_writes hart (announced ns)) (sym joined) ∙ rest.1 ∙ ap (λ vs. vs ++ ws) grown ∙ regroup,
+    )

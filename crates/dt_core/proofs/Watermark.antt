@@ -34,10 +34,11 @@ records_of-none harts hart last (r ∷ rs) each past = elim (cases_Bool (r.hart 
 taken_first : (hart : ℕ) (file : List Record) (l : Lists) → IsSound file l → IsPrefix (l.taken hart) (records_of hart file)
 taken_first hart file l sound =
     let queue = l.queue hart in
-    let rest = sound.fed.front.0 in
-    (queue ++ records_of hart rest,
-    sym (append_assoc (l.taken hart) queue (records_of hart rest)) ∙ ap (λ rs. rs ++ records_of hart rest) (sound.kept hart)
-    ∙ sym (filter-append (λ (s : Record). s.hart == hart) l.fed rest) ∙ ap (records_of hart) sound.fed.front.1)
+    let rest = sound.fed.front.0 in (
+      queue ++ records_of hart rest,
+      sym (append_assoc (l.taken hart) queue (records_of hart rest)) ∙ ap (λ rs. rs ++ records_of hart rest) (sound.kept hart)
+          ∙ sym (filter-append (λ (s : Record). s.hart == hart) l.fed rest) ∙ ap (records_of hart) sound.fed.front.1,
+    )
 
 front_of : (hart : ℕ) (file : List Record) (l : Lists) (front : List Note) → IsSound file l → IsPrefix front l.history
     → IsFront hart (records_of hart file) (l.taken hart) l.history front

@@ -1,5 +1,5 @@
 -- What holds after any list of steps of the core machine. All of it is this project's own.
-use Rattle.std.specs.Prelude.{◌≡◌, ℕ, Option, Some, None, List, [], ◌∷◌, ◌++◌, take}
+use Rattle.std.specs.Prelude.{◌≡◌, ℕ, ◌≤◌, Option, Some, None, List, [], ◌∷◌, ◌++◌, length, take}
 use Rattle.std.specs.List.{slice_get}
 use mathlib.Core.List.{IsPrefix}
 use Rattle.dt_record.specs.declared.keys.Key.{Key}
@@ -42,12 +42,25 @@ pub record HoldsAfter {J : Type 0} (m : Meaning J) (harts : ℕ) (file : List Re
   pub exact : (front : List Note) → IsPrefix front (notes_in c.history) → HoldsBelow (least_mark harts front) front file
   -- every outcome is the judgement over all writes of the file
   pub judged : (hart : ℕ) (s : HartState J) → slice_get c.harts hart ≡ Some s
-    → AreJudged m (writes_of file) (m.opening hart) (records_of hart file) s.outcomes s.state
+      → AreJudged m (writes_of file) (m.opening hart) (records_of hart file) s.outcomes s.state
   -- every Failure note is the failure of its hart over all writes of the file
   pub failures : (before after : List Note) (key : Key) → notes_in c.history ≡ before ++ Failure key ∷ after
-    → failure_of m (writes_of file) key.hart (records_of key.hart file) ≡ Some key
+      → failure_of m (writes_of file) key.hart (records_of key.hart file) ≡ Some key
 
 -- after any list of steps from the start
 abbrev pub EveryRunHolds : {J : Type 0} → Meaning J → Type 0
 EveryRunHolds {J} m = (harts workers : ℕ) (file : List Record) (steps : List CoreStep) → AreRecords harts no_stamps file
     → HoldsAfter m harts file (run_steps m (opening_state m harts workers file) steps)
+
+-- some list of steps leads from the start of some file to the state
+pub record IsReached {J : Type 0} (m : Meaning J) (c : CoreState J) : Type 0 where
+  pub harts : ℕ
+  pub workers : ℕ
+  pub file : List Record
+  pub steps : List CoreStep
+  pub few_harts : harts ≤ 8
+  pub some_worker : 1 ≤ workers
+  pub few_workers : workers ≤ 8
+  pub each : AreRecords harts no_stamps file
+  pub few_records : length file ≤ 4_194_304
+  pub is : c ≡ run_steps m (opening_state m harts workers file) steps

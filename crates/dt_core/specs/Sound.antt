@@ -33,10 +33,10 @@ pub record IsAnnounced (hart : ℕ) (records taken : List Record) (history : Lis
   pub wrote : IsPrefix (hart_writes hart (announced history)) (writes_by taken)
   -- before a Mark of it stand all its writes in the file with a stamp below the Mark's
   pub marks : (before after : List Note) (stamp : ℕ) → history ≡ before ++ Mark hart stamp ∷ after
-    → writes_below stamp (hart_writes hart (announced before)) ≡ writes_below stamp (writes_by records)
+      → writes_below stamp (hart_writes hart (announced before)) ≡ writes_below stamp (writes_by records)
   -- before an End of it stand all its writes in the file
   pub ends : (before after : List Note) → history ≡ before ++ End hart ∷ after
-    → hart_writes hart (announced before) ≡ writes_by records
+      → hart_writes hart (announced before) ≡ writes_by records
 
 pub record IsSound (file : List Record) (l : Lists) : Type 0 where
   pub fed : IsFed file l

@@ -1,4 +1,4 @@
-ghost use Rattle.std.specs.Prelude.{◌≡◌, ◌<◌, length, take, slice_set, Some, IfOk, OnOk, OnErr};
+ghost use Rattle.std.specs.Prelude.{◌≡◌, ◌<◌, ◌^◌, length, take, slice_set, Some, IsSome, IfOk, OnOk, OnErr};
 ghost use Rattle.std.specs.List.{slice_get, list_all};
 ghost use Rattle.dt_core.specs.Machine.{CoreState, new_harts, opening_state, queued, feed_next, take_of, HartState, has_crossed, ends_with, is_true, announce_of, seen_notes, next_record, judge_next, judge_of, step_state};
 ghost use Rattle.dt_core.specs.Notes.{notes_in};
@@ -45,6 +45,14 @@ fn new_harts<J: Judgement>(alloc: Global, harts: u8) -> Result<Vec<Hart<J>>, All
     Ok(all)
 }
 
+/// The record that is fed next.
+fn next_event(file: &[Record], fed: usize) -> Option<Record>
+    ensures next { result ≡ slice_get file.now fed }
+    ensures within { IsSome result → fed < length file.now }
+{
+    file.get(fed).copied()
+}
+
 /// Puts a record at the end of its hart's queue.
 fn queue_event<J: Judgement>(harts: &mut [Hart<J>], event: Record) -> Result<(), AllocError>
     ensures queued { OnOk result (harts.new ≡ queued harts.old event (slice_get harts.old event.hart)) }
@@ -69,11 +77,7 @@ fn take_first<J: Judgement>(harts: &mut [Hart<J>], hart: u8) -> Result<(), Alloc
 }
 
 /// The notes of the first entries.
-fn first_notes(
-    alloc: Global,
-    entries: &[Entry],
-    count: usize,
-) -> Result<Vec<Note>, AllocError>
+fn first_notes(alloc: Global, entries: &[Entry], count: usize) -> Result<Vec<Note>, AllocError>
     ensures { IfOk result (λ notes. notes.items ≡ notes_in (take count entries.now)) }
 {
     let end = count.min(entries.len());
@@ -105,11 +109,12 @@ impl<J: Judgement> Core<J> {
         ensures fed { OnOk result (self.new ≡ feed_next self.old (slice_get self.old.file self.old.fed)) }
         ensures unchanged { OnErr result (self.new ≡ self.old) }
     {
-        if self.fed < self.file.len() {
-            queue_event(&mut self.harts, self.file[self.fed])?;
-            self.fed += 1;
-        } else {
-            self.is_ended = true;
+        match next_event(&self.file, self.fed) {
+            Some(event) => {
+                queue_event(&mut self.harts, event)?;
+                self.fed += 1;
+            }
+            None => self.is_ended = true,
         }
         Ok(())
     }
@@ -138,8 +143,7 @@ impl<J: Judgement> Core<J> {
         let workers = self.seen.len() as u8;
         match note {
             Note::Cut { hart, cut } => {
-                is_mine(workers, worker, *hart)
-                    && self.has_crossed(*hart, *cut)
+                is_mine(workers, worker, *hart) && self.has_crossed(*hart, *cut)
             }
             Note::Failure { key } => {
                 is_mine(workers, worker, key.hart) && self.has_ended_with(*key)
@@ -234,6 +238,21 @@ impl<J: Judgement> Core<J> {
             self.judge_at(usize::from(hart), &notes)?;
         }
         Ok(())
+    }
+
+    pub fn harts(&self) -> u8
+        requires { length self.now.harts < 2 ^ 8 }
+        ensures { result ≡ length self.now.harts }
+    {
+        self.harts.len() as u8
+    }
+
+    pub fn judged(&self, hart: u8) -> u32
+        requires within { hart < length self.now.harts }
+        requires few { (s : HartState J) → slice_get self.now.harts hart ≡ Some s → length s.outcomes < 2 ^ 32 }
+        ensures { (s : HartState J) → slice_get self.now.harts hart ≡ Some s → result ≡ length s.outcomes }
+    {
+        self.harts[usize::from(hart)].outcomes().len() as u32
     }
 
     pub fn step(&mut self, s: &CoreStep) -> Result<(), AllocError>

@@ -11,10 +11,14 @@ mod laws;
 mod notes;
 mod steps;
 mod tells;
+#[cfg(test)]
+mod tests;
 mod truths;
+mod worlds;
 mod writes;
 
 pub use entries::Entry;
 pub use judgements::Judgement;
 pub use laws::{every_run_holds, writes_below_mark_are_all, writes_until_judged_are_all};
 pub use steps::{CoreStep, Notes};
+pub use worlds::{World, step};

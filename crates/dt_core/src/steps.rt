@@ -40,21 +40,12 @@ pub enum CoreStep {
     /// is fed.
     Feed,
     /// The first record of the hart's queue is taken.
-    Take {
-        hart: u8,
-    },
+    Take { hart: u8 },
     /// The worker appends what there is to tell of its harts: the writes of taken records, then a
     /// mark or the end. `extra` holds cuts and failures that are true of its judged records.
-    Announce {
-        worker: u8,
-        extra: Notes,
-    },
+    Announce { worker: u8, extra: Notes },
     /// The worker sees the history as it stands.
-    Look {
-        worker: u8,
-    },
+    Look { worker: u8 },
     /// The hart's next taken record is judged, where the history that its worker has seen allows it.
-    Judge {
-        hart: u8,
-    },
+    Judge { hart: u8 },
 }

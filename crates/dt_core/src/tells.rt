@@ -14,11 +14,7 @@ use dt_record::{Note, Record, Write};
 use std::alloc::{AllocError, Global};
 
 /// Appends notes as entries of a worker.
-pub fn add_entries(
-    history: &mut Vec<Entry>,
-    worker: u8,
-    notes: &[Note],
-) -> Result<(), AllocError>
+pub fn add_entries(history: &mut Vec<Entry>, worker: u8, notes: &[Note]) -> Result<(), AllocError>
     ensures { OnOk result (history.new.items ≡ history.old.items ++ entries_of worker notes.now) }
 {
     for note in notes {

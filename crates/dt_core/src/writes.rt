@@ -47,11 +47,7 @@ fn by_key(alloc: Global, writes: &[Write]) -> Result<Vec<Write>, AllocError>
 }
 
 /// The writes below a cycle.
-fn writes_below(
-    alloc: Global,
-    stamp: u64,
-    writes: &[Write],
-) -> Result<Vec<Write>, AllocError>
+fn writes_below(alloc: Global, stamp: u64, writes: &[Write]) -> Result<Vec<Write>, AllocError>
     ensures { IfOk result (λ below. below.items ≡ writes_below stamp writes.now) }
 {
     let mut below = Vec::new(alloc);
@@ -76,11 +72,7 @@ pub fn usable(alloc: Global, harts: u8, notes: &[Note]) -> Result<Vec<Write>, Al
 }
 
 /// The writes of one hart's records.
-pub fn writes_by(
-    alloc: Global,
-    hart: u8,
-    records: &[Record],
-) -> Result<Vec<Write>, AllocError>
+pub fn writes_by(alloc: Global, hart: u8, records: &[Record]) -> Result<Vec<Write>, AllocError>
     requires own { AreOwn hart records.now }
     requires few { length records.now ≤ 4194304 }
     ensures { IfOk result (λ writes. writes.items ≡ writes_by records.now) }
