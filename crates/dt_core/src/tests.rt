@@ -15,6 +15,12 @@ struct Counted {
     hart: u8,
 }
 
+fn count_until(stamp: u64, writes: &[Write]) -> usize
+    ensures { result ≡ length (writes_until stamp writes.now) }
+{
+    writes.iter().filter(|w| w.key.stamp <= stamp).count()
+}
+
 impl Judgement for Counted {
     ghost meaning = { record {
       opening = λ h. record { hart = h };
@@ -27,9 +33,7 @@ impl Judgement for Counted {
     }
 
     fn judge(&mut self, writes: &[Write], event: &Record) -> Result<bool, AllocError> {
-        let stamp = event.stamp;
-        let count = writes.iter().filter(|w| w.key.stamp <= stamp).count();
-        Ok(count as u64 == stamp)
+        Ok(count_until(event.stamp, writes) as u64 == event.stamp)
     }
 
     ghost reads_no_later_writes = { λ s ws vs r same. (ap (λ us. length us == r.stamp) same, refl) };
