@@ -1,5 +1,6 @@
 mod Announced
 mod Chances
+mod Counterexample
 mod Insertion
 mod Loops
 mod Places

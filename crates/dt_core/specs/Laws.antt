@@ -1,13 +1,13 @@
 -- The watermark law over lists alone: why a record may be judged before the file has ended. All of
 -- it is this project's own.
-use Rattle.std.specs.Prelude.{◌≡◌, ℕ, Option, Some, None, List}
+use Rattle.std.specs.Prelude.{◌≡◌, ℕ, ◌<◌, ◌≤◌, ◌⊎◌, true, Option, Some, None, List}
 use mathlib.Core.List.{IsPrefix}
 use Rattle.dt_record.specs.declared.records.Record.{Record}
 use Rattle.dt_record.specs.declared.writes.Note.{Note}
 use Rattle.dt_record.specs.ProbeFile.{AreRecords, no_stamps}
 use Rattle.dt_record.specs.Writes.{by_key, writes_of}
 use Rattle.dt_versions.specs.History.{writes_until}
-use Rattle.dt_core.specs.Marks.{least_mark, CanJudge}
+use Rattle.dt_core.specs.Marks.{mark_of, has_ended, least_mark, CanJudge}
 use Rattle.dt_core.specs.Notes.{announced, writes_below}
 use Rattle.dt_core.specs.Sound.{Lists, IsSound}
 
@@ -27,4 +27,18 @@ WritesBelowMarkAreAll = (harts : ℕ) (file : List Record) (l : Lists) (front : 
 abbrev pub WritesUntilJudgedAreAll : Type 0
 WritesUntilJudgedAreAll = (harts : ℕ) (file : List Record) (l : Lists) (front : List Note) (stamp : ℕ)
     → AreRecords harts no_stamps file → IsSound file l → IsPrefix front l.history → CanJudge harts front stamp
+    → writes_until stamp (by_key (announced front)) ≡ writes_until stamp (writes_of file)
+
+-- The same with "at most" in place of "below" and of "strictly above". Neither holds: `below_is_needed` and
+-- `strict_mark_is_needed` say so.
+
+abbrev pub WritesUntilMarkAreAll : Type 0
+WritesUntilMarkAreAll = (harts : ℕ) (file : List Record) (l : Lists) (front : List Note) (least : ℕ)
+    → AreRecords harts no_stamps file → IsSound file l → IsPrefix front l.history → least_mark harts front ≡ Some least
+    → writes_until least (by_key (announced front)) ≡ writes_until least (writes_of file)
+
+abbrev pub EqualMarkIsEnough : Type 0
+EqualMarkIsEnough = (harts : ℕ) (file : List Record) (l : Lists) (front : List Note) (stamp : ℕ)
+    → AreRecords harts no_stamps file → IsSound file l → IsPrefix front l.history
+    → ((hart : ℕ) → hart < harts → (has_ended hart front ≡ true) ⊎ (stamp ≤ mark_of hart front))
     → writes_until stamp (by_key (announced front)) ≡ writes_until stamp (writes_of file)

@@ -1,5 +1,5 @@
 //! Laws of the definitions, for the crates above. The functions do nothing.
-ghost use Rattle.dt_core.specs.Laws.{WritesBelowMarkAreAll, WritesUntilJudgedAreAll};
+ghost use Rattle.dt_core.specs.Laws.{WritesBelowMarkAreAll, WritesUntilJudgedAreAll, WritesUntilMarkAreAll, EqualMarkIsEnough};
 ghost use Rattle.dt_core.specs.Runs.{EveryRunHolds};
 
 use crate::judgements::Judgement;
@@ -21,4 +21,14 @@ pub fn writes_until_judged_are_all()
 /// and every failure that was told is the hart's.
 pub fn every_run_holds<J: Judgement>()
     ensures { EveryRunHolds J.meaning }
+{}
+
+/// A front of a sound history need not hold the writes of the cycle of its least mark.
+pub fn below_is_needed()
+    ensures { WritesUntilMarkAreAll → ⊥ }
+{}
+
+/// It is not enough for judging a record that the marks are at its cycle.
+pub fn strict_mark_is_needed()
+    ensures { EqualMarkIsEnough → ⊥ }
 {}

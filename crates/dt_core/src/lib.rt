@@ -19,6 +19,9 @@ mod writes;
 
 pub use entries::Entry;
 pub use judgements::Judgement;
-pub use laws::{every_run_holds, writes_below_mark_are_all, writes_until_judged_are_all};
+pub use laws::{
+    below_is_needed, every_run_holds, strict_mark_is_needed, writes_below_mark_are_all,
+    writes_until_judged_are_all,
+};
 pub use steps::{CoreStep, Notes};
 pub use worlds::{World, step};
