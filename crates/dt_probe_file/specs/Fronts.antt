@@ -76,3 +76,14 @@ IsFront s bytes Wrong = (more : List ℕ) → IsBroken s (bytes ++ more)
 abbrev pub first_too_many : What → ℕ
 first_too_many Records = 4_194_305
 first_too_many Writes = 1_048_577
+
+-- the first byte is this one
+abbrev pub HasTag : ℕ → List ℕ → Type 0
+HasTag tag bytes = (rest : List ℕ) × (bytes ≡ tag ∷ rest)
+
+-- bytes with an end's tag are an end of so many records, the beginning of one, or no such end
+abbrev pub IsEndFront : ℕ → List ℕ → Front → Type 0
+IsEndFront events bytes (Event r len) = ⊥
+IsEndFront events bytes End = (bytes ≡ end_bytes events ++ drop 9 bytes) × (9 ≤ length bytes)
+IsEndFront events bytes Begun = length bytes < 9
+IsEndFront events bytes Wrong = (more rest : List ℕ) → bytes ++ more ≡ end_bytes events ++ rest → ⊥

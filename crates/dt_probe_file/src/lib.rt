@@ -2,4 +2,5 @@
 #![tactic(auto)]
 
 mod fronts;
+mod holding;
 mod reading;

@@ -14,4 +14,4 @@ mod whole;
 pub use memory::{CalmSource, MemSink, MemSource};
 pub use system::{FileSource, StdSink};
 pub use traits::{Failed, Sink, Source};
-pub use whole::{Filled, ReadRefusal, fill, read_up_to, write_all};
+pub use whole::{Filled, ReadRefusal, fill, read_behind, read_up_to, write_all};

@@ -55,8 +55,8 @@ fn read_front<S: Source>(source: &mut S, buf: &mut [u8], room: usize) -> Result<
     source.read(front)
 }
 
-/// Reads into the bytes of the buffer from place `at` on.
-fn read_behind<S: Source>(source: &mut S, buf: &mut [u8], at: usize) -> Result<usize, Failed>
+/// Reads the next bytes into the buffer from place `at` on and says how many: 0 only at the end.
+pub fn read_behind<S: Source>(source: &mut S, buf: &mut [u8], at: usize) -> Result<usize, Failed>
     requires { at < length buf.old }
     ensures within { IfOk result (λ n. at + n ≤ length buf.old) }
     ensures takes { IfOk result (λ n.
