@@ -1,17 +1,17 @@
 -- What the answer to bytes is, and that it is one.
-use Rattle.std.proofs.Common.{◌≡◌, ℕ, ◌+◌, ◌<◌, ◌≤◌, ◌^◌, Bool, true, false, List, [], ◌∷◌, ◌++◌, length, drop, get_or, Option, None, Some, refl, sym, ap, ◌∙◌, subst, append_assoc, inl, inr, ◌⊎◌, arith}
+use Rattle.std.proofs.Common.{◌≡◌, ℕ, ◌<◌, ◌≤◌, ◌^◌, List, [], ◌∷◌, ◌++◌, length, drop, get_or, None, Some, refl, sym, ap, ◌∙◌, subst, append_assoc, inl, inr, arith}
 use Rattle.std.proofs.lemmas.List.{length-append, drop_at}
 use Rattle.dt_record.specs.declared.records.Record.{Record}
 use Rattle.dt_record.specs.declared.records.Body.{Body}
-use Rattle.dt_record.specs.Lawful.{FitsBody, FitsRecord, IsLawful}
+use Rattle.dt_record.specs.Lawful.{FitsRecord, IsLawful}
 use Rattle.dt_record.specs.Tags.{tag_number}
 use Rattle.dt_record.specs.Spelling.{double, wide_bytes, end_bytes}
 use Rattle.dt_record_bytes.specs.declared.decoded.Decoded.{Decoded}
 use Rattle.dt_record_bytes.specs.declared.decoded.Decoded.TheVariants.{Got, Short, Bad}
-use Rattle.dt_record_bytes.specs.WideAnswer.{IsSpelled, LacksRecord, wide_length, HasKind, IsCut, body_bytes_with, wide_bytes_with, IsWroteByte, HasFields, bounds_with, first_broken, HasNoKind, IsBroken, IsWideAnswer}
+use Rattle.dt_record_bytes.specs.WideAnswer.{IsSpelled, LacksRecord, wide_length, HasKind, IsCut, body_bytes_with, wide_bytes_with, HasFields, bounds_with, first_broken, HasNoKind, IsBroken, IsWideAnswer}
 use Rattle.dt_record_bytes.proofs.Apart.{Whole, whole, fields_are_one, doubles_are_one}
 use Rattle.dt_record_bytes.proofs.Bounds.{wrote_byte_of, wrote_byte_is, same_bytes, lawful_of_unbroken, unbroken_of_lawful, byte_of_unbroken}
-use Rattle.dt_record_bytes.proofs.Lengths.{wide_length_is, IsUsual, usual_length}
+use Rattle.dt_record_bytes.proofs.Lengths.{wide_length_is, usual_length}
 
 -- the first two bytes, and the others
 cells : (bytes : List ℕ) → 2 ≤ length bytes → bytes ≡ get_or bytes 0 0 ∷ get_or bytes 1 0 ∷ drop 2 bytes

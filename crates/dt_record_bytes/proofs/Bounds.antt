@@ -1,12 +1,12 @@
 -- The bounds on fields that stand in bytes, and those on a record.
-use Rattle.std.proofs.Common.{◌≡◌, ℕ, zero, suc, ◌<◌, ◌≤◌, ◌==◌, ◌&&◌, Bool, true, false, not, if◌then◌else◌, List, [], ◌∷◌, ◌++◌, Option, None, Some, IsTrue, refl, sym, ap, ◌∙◌, arith}
+use Rattle.std.proofs.Common.{◌≡◌, ℕ, zero, suc, ◌==◌, ◌&&◌, Bool, true, false, not, if◌then◌else◌, List, [], ◌∷◌, ◌++◌, Option, None, Some, IsTrue, refl, sym, ap, ◌∙◌, arith}
 use Rattle.std.specs.Prelude.{nat_le, nat_lt}
 use Rattle.std.specs.List.{list_all}
 use Rattle.std.proofs.lemmas.Bool.{leb-true}
 use Rattle.dt_record.specs.declared.records.Record.{Record}
 use Rattle.dt_record.specs.declared.records.Body.{Body}
 use Rattle.dt_record.specs.declared.records.Body.TheVariants.{Commit, Trap, Regs, Csrs, Load, Store, Atomic, Drain, Refill, Beat}
-use Rattle.dt_record.specs.Lawful.{Bound, bounds_of, body_bounds, IsLawful, is_instruction, is_atomic_place, is_atomic_value}
+use Rattle.dt_record.specs.Lawful.{Bound, bounds_of, IsLawful, is_instruction, is_atomic_place, is_atomic_value}
 use Rattle.dt_record.specs.Spelling.{flag, body_bytes, double, wide_bytes}
 use Rattle.dt_record.specs.Tags.{tag_number}
 use Rattle.dt_record_bytes.specs.WideAnswer.{body_bytes_with, wide_bytes_with, IsWroteByte, bounds_with, first_broken}

@@ -1,5 +1,5 @@
 -- How long spellings are.
-use Rattle.std.proofs.Common.{◌≡◌, ℕ, suc, ◌+◌, ◌*◌, ◌<◌, ◌≤◌, ◌==◌, Bool, true, false, if◌then◌else◌, List, [], ◌∷◌, ◌++◌, length, Option, None, Some, refl, sym, ap, ◌∙◌, arith}
+use Rattle.std.proofs.Common.{◌≡◌, ℕ, ◌+◌, ◌≤◌, ◌==◌, Bool, true, false, if◌then◌else◌, ◌∷◌, ◌++◌, length, Option, None, Some, refl, sym, ap, ◌∙◌, arith}
 use Rattle.std.specs.List.{flat_map}
 use Rattle.std.specs.Prelude.{IsSomeAnd}
 use Rattle.std.proofs.lemmas.List.{length-append}
@@ -10,7 +10,7 @@ use Rattle.dt_record.specs.Lawful.{FitsBody, FitsRecord}
 use Rattle.dt_record.specs.Tags.{tag_number}
 use Rattle.dt_record.specs.Spelling.{half, word, double}
 use Rattle.dt_record_bytes.specs.WideAnswer.{wide_length, body_bytes_with, wide_bytes_with}
-use Rattle.dt_record_bytes.proofs.Fields.{length-half, length-word, length-double, length-doubles}
+use Rattle.dt_record_bytes.proofs.Fields.{length-half, length-double, length-doubles}
 
 abbrev of_length : ℕ → Option ℕ
 of_length n = Some (n + 10)

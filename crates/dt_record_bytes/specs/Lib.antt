@@ -1,1 +1,4 @@
+pub mod ShortForms
+pub mod ShortPieces
+pub mod ShortReading
 pub mod WideAnswer

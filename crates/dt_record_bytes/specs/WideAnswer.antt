@@ -1,7 +1,7 @@
-use Rattle.std.specs.Prelude.{ℕ, ◌≡◌, ◌<◌, ◌≤◌, ◌+◌, ◌⊎◌, ◌==◌, Bool, true, false, not, if◌then◌else◌, Option, None, Some, List, [], ◌∷◌, ◌++◌, length, drop, nat_lt, nat_le, IsTrue, zero, suc}
+use Rattle.std.specs.Prelude.{ℕ, ◌≡◌, ◌<◌, ◌⊎◌, ◌==◌, not, if◌then◌else◌, Option, None, Some, List, [], ◌∷◌, ◌++◌, length, drop, nat_lt, nat_le}
 use Rattle.dt_record.specs.declared.records.Record.{Record}
 use Rattle.dt_record.specs.declared.records.Body.{Body}
-use Rattle.dt_record.specs.declared.records.Body.TheVariants.{Commit, Trap, Regs, Csrs, Load, Store, Atomic, Drain, Refill, Beat}
+use Rattle.dt_record.specs.declared.records.Body.TheVariants.{Atomic}
 use Rattle.dt_record.specs.Lawful.{Bound, bound, body_bounds, FitsRecord, IsLawful}
 use Rattle.dt_record.specs.Tags.{tag_number}
 use Rattle.dt_record.specs.Spelling.{retire_bytes, body_bytes, double, wide_bytes}

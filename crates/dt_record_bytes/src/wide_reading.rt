@@ -1,8 +1,8 @@
-ghost use Rattle.std.specs.Prelude.{◌≡◌, ◌+◌, ◌*◌, ◌^◌, ◌≤◌, ◌++◌, ◌∷◌, List, ℕ, length, slice_index, IsSomeAnd};
+ghost use Rattle.std.specs.Prelude.{◌≡◌, ◌+◌, ◌*◌, ◌^◌, ◌≤◌, ◌++◌, List, ℕ, length, slice_index, IsSomeAnd};
 ghost use Rattle.std.specs.List.{flat_map};
 ghost use Rattle.dt_record.specs.Tags.{tag_number};
-ghost use Rattle.dt_record.specs.Spelling.{half, word, double, retire_bytes, body_bytes};
-ghost use Rattle.dt_record.specs.Lawful.{FitsRetire, FitsList, FitsBody, FitsRecord};
+ghost use Rattle.dt_record.specs.Spelling.{half, word, double, retire_bytes};
+ghost use Rattle.dt_record.specs.Lawful.{FitsRetire, FitsList, FitsBody};
 ghost use Rattle.dt_record_bytes.specs.WideAnswer.{wide_length, body_bytes_with, wide_bytes_with, IsWroteByte, HasFields};
 
 use dt_record::{Body, Record, Retire};

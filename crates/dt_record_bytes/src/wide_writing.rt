@@ -1,6 +1,6 @@
 ghost use Rattle.std.specs.Prelude.{◌≡◌, ◌++◌, OnOk};
 ghost use Rattle.std.specs.List.{flat_map};
-ghost use Rattle.dt_record.specs.Spelling.{half, word, double, retire_bytes, body_bytes, flag};
+ghost use Rattle.dt_record.specs.Spelling.{half, word, double, retire_bytes, body_bytes};
 
 use dt_record::{Body, Retire};
 use std::alloc::AllocError;
