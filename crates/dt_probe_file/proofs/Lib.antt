@@ -1,1 +1,6 @@
+pub mod Deciding
+pub mod Files
+pub mod HeldParts
 pub mod OneAnswer
+pub mod Stepping
+pub mod Telling

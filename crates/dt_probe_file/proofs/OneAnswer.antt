@@ -10,9 +10,10 @@ use Rattle.dt_record.specs.declared.streams.Next.{Next}
 use Rattle.dt_record.specs.declared.streams.Next.TheVariants.{Header, Event, End, Malformed, Limit, ReadFault, OutOfMemory}
 use Rattle.dt_record.specs.Tags.{tag_number}
 use Rattle.dt_record.specs.Spelling.{Version, One, Two, wide_bytes, short_bytes, record_bytes, end_bytes, double}
-use Rattle.dt_record.specs.ProbeFile.{IsNext}
-use Rattle.dt_record.specs.Answers.{Reading, after_record, writes_with, spelled_next, GoesOn, HasRoom, IsBroken, IsMalformed, IsTooMany, IsLimit, AreAnswersAfter}
-use Rattle.dt_record_bytes.proofs.Answering.{spellings_are_one}
+use Rattle.dt_record.specs.ProbeFile.{IsNext, header_bytes}
+use Rattle.dt_record.specs.Answers.{Reading, after_record, writes_with, spelled_next, GoesOn, HasRoom, IsBroken, IsMalformed, IsTooMany, IsLimit, opened, header_fault, AreAnswersAfter, AreOpened, AreAnswers}
+use Rattle.dt_probe_file.specs.Proposed.{goes_one}
+use Rattle.dt_probe_file.specs.HeaderFields.{SameHeader, headers_are_one, header_holds}
 
 -- What stands at the front of bytes is one record or an end.
 
@@ -31,17 +32,14 @@ tag_is_no_end Beat same = omega (arith, same)
 heads : (a b : ℕ) (x y : List ℕ) → a ∷ x ≡ b ∷ y → a ≡ b
 heads a b x y same = cc
 
-pub record_is_no_end : (v : Version) (last : ℕ) (r : Record) (count : ℕ) (x y : List ℕ) → record_bytes v last r ++ x ≡ end_bytes count ++ y → ⊥
-unfolding wide_bytes short_bytes end_bytes
-record_is_no_end One last r count x y same = tag_is_no_end r.body (heads _ _ _ _ same)
-record_is_no_end Two last r count x y same = tag_is_no_end r.body (heads _ _ _ _ same)
+pub record_has_no_end_tag : (v : Version) (last : ℕ) (r : Record) (x after : List ℕ) → record_bytes v last r ++ x ≡ 255 ∷ after → ⊥
+unfolding wide_bytes short_bytes
+record_has_no_end_tag One last r x after same = tag_is_no_end r.body (heads _ _ _ _ same)
+record_has_no_end_tag Two last r x after same = tag_is_no_end r.body (heads _ _ _ _ same)
 
-pub records_are_one : (v : Version) (harts : ℕ) (last : ℕ → ℕ) (r q : Record) (x y : List ℕ) → IsNext harts last r → IsNext harts last q → record_bytes v (last r.hart) r ++ x ≡ record_bytes v (last q.hart) q ++ y → (r ≡ q) × (x ≡ y)
-records_are_one One harts last r q x y f g same = spellings_are_one r q x y f.fits g.fits same
-records_are_one Two harts last r q x y f g same = ?
-
-pub goes_one : (s : Reading) (bytes : List ℕ) (r q : Record) (x y : List ℕ) → GoesOn s bytes r x → GoesOn s bytes q y → (r ≡ q) × (x ≡ y)
-goes_one s bytes r q x y a b = records_are_one s.version s.harts s.last r q x y a.next b.next (sym a.spelled ∙ b.spelled)
+record_is_no_end : (v : Version) (last : ℕ) (r : Record) (count : ℕ) (x y : List ℕ) → record_bytes v last r ++ x ≡ end_bytes count ++ y → ⊥
+unfolding end_bytes
+record_is_no_end v last r count x y same = record_has_no_end_tag v last r x (double count ++ y) same
 
 pub goes_or_ends : (s : Reading) (bytes : List ℕ) (r : Record) (rest : List ℕ) (count : ℕ) (more : List ℕ) → GoesOn s bytes r rest → bytes ≡ end_bytes count ++ more → ⊥
 goes_or_ends s bytes r rest count more a e = record_is_no_end s.version (s.last r.hart) r count rest more (sym a.spelled ∙ e)
@@ -117,3 +115,37 @@ after_is_one s bytes (x ∷ more) [] a b = absurd b
 after_is_one s bytes (x ∷ more) (Header harts wide ∷ others) a b = absurd b
 after_is_one s bytes (x ∷ more) (ReadFault ∷ others) a b = absurd b
 after_is_one s bytes (x ∷ more) (OutOfMemory ∷ others) a b = absurd b
+
+some_is_one : (m n : ℕ) → Some m ≡ Some n → m ≡ n
+some_is_one m n e = cc
+
+opened_is_sound : (bytes : List ℕ) (v : Version) (harts : ℕ) (wide : Bool) (more : List Next) → AreOpened bytes v harts wide more → header_fault bytes ≡ None
+opened_is_sound bytes v harts wide more a = ap header_fault a.spelled ∙ header_holds v harts wide a.rest a.some_hart a.few_harts
+
+opened_is_one : (bytes : List ℕ) (v u : Version) (harts others : ℕ) (wide other : Bool) (xs ys : List Next) → AreOpened bytes v harts wide xs → AreOpened bytes u others other ys → Header harts wide ∷ xs ≡ Header others other ∷ ys
+opened_is_one bytes v u harts others wide other xs ys a b =
+    let same = headers_are_one v u harts others wide other a.rest b.rest (sym a.spelled ∙ b.spelled) in
+    let in_version = subst (λ (z : Version). AreAnswersAfter (opened z others) b.rest ys) (sym same.version) b.after in
+    let of_harts = subst (λ (n : ℕ). AreAnswersAfter (opened v n) b.rest ys) (sym same.harts) in_version in
+    let behind = subst (λ (z : List ℕ). AreAnswersAfter (opened v harts) z ys) (sym same.rest) of_harts in
+    let more = after_is_one (opened v harts) a.rest xs ys a.after behind in
+    ap (λ (n : ℕ). Header n wide ∷ xs) same.harts ∙ ap (λ (w : Bool). Header others w ∷ xs) same.wide ∙ ap (λ (z : List Next). Header others other ∷ z) more
+
+-- The answers of a file's bytes are one list.
+pub answers_are_one : (bytes : List ℕ) (xs ys : List Next) → AreAnswers bytes xs → AreAnswers bytes ys → xs ≡ ys
+answers_are_one bytes [] ys a b = absurd a
+answers_are_one bytes (Event r ∷ more) ys a b = absurd a
+answers_are_one bytes (End count ∷ more) ys a b = absurd a
+answers_are_one bytes (Limit what number ∷ more) ys a b = absurd a
+answers_are_one bytes (ReadFault ∷ more) ys a b = absurd a
+answers_are_one bytes (OutOfMemory ∷ more) ys a b = absurd a
+answers_are_one bytes (Header harts wide ∷ more) (Header number other ∷ others) a b = opened_is_one bytes a.0 b.0 harts number wide other more others a.1 b.1
+answers_are_one bytes (Header harts wide ∷ more) (Malformed offset ∷ others) a b = absurd (let clash : None ≡ Some offset = sym (opened_is_sound bytes a.0 harts wide more a.1) ∙ b.1 in cc)
+answers_are_one bytes (Malformed offset ∷ more) (Header harts wide ∷ others) a b = absurd (let clash : None ≡ Some offset = sym (opened_is_sound bytes b.0 harts wide others b.1) ∙ a.1 in cc)
+answers_are_one bytes (Malformed offset ∷ more) (Malformed other ∷ others) a b = alone _ _ _ _ (ap (λ (n : ℕ). Malformed n) (some_is_one offset other (sym a.1 ∙ b.1))) a.0 b.0
+answers_are_one bytes (x ∷ more) [] a b = absurd b
+answers_are_one bytes (x ∷ more) (Event r ∷ others) a b = absurd b
+answers_are_one bytes (x ∷ more) (End count ∷ others) a b = absurd b
+answers_are_one bytes (x ∷ more) (Limit what number ∷ others) a b = absurd b
+answers_are_one bytes (x ∷ more) (ReadFault ∷ others) a b = absurd b
+answers_are_one bytes (x ∷ more) (OutOfMemory ∷ others) a b = absurd b

@@ -1,2 +1,7 @@
+pub mod Exists
+pub mod Found
 pub mod Fronts
+pub mod HeaderFields
+pub mod Headers
+pub mod Proposed
 pub mod Told

@@ -1,6 +1,6 @@
-ghost use Rattle.std.specs.Prelude.{◌≡◌, ◌<◌, ◌≤◌, ℕ, IsTrue, ◌↔◌, ◌^◌, length, slice_index};
+ghost use Rattle.std.specs.Prelude.{◌≡◌, ◌≢◌, ◌<◌, ◌≤◌, ℕ, IsTrue, ◌↔◌, ◌^◌, length, take, drop, slice_index};
 ghost use Rattle.dt_record.specs.ProbeFile.{IsNext};
-ghost use Rattle.dt_record.specs.Spelling.{end_bytes, record_bytes};
+ghost use Rattle.dt_record.specs.Spelling.{double, end_bytes, record_bytes};
 ghost use Rattle.dt_probe_file.specs.Fronts.{IsSound, IsFront, IsDecoded, HasTag, IsEndFront, reading_of, version_of};
 
 use crate::reading::{Opened, Version};
@@ -28,7 +28,8 @@ pub(crate) enum Front {
 
 /// The last stamp of the hart that the bytes of a record name, as far as they are there.
 fn last_of(last: &[u64; 8], bytes: &[u8]) -> u64
-    ensures { 2 ≤ length bytes.now → result ≡ slice_index last.now (slice_index bytes.now 1) }
+    ensures named { 2 ≤ length bytes.now → result ≡ slice_index last.now (slice_index bytes.now 1) }
+    ensures unnamed { length bytes.now < 2 → result ≡ 0 }
 {
     match bytes.get(1) {
         Some(hart) if *hart < 8 => last[usize::from(*hart)],
@@ -53,6 +54,17 @@ fn may_follow(opened: &Opened, event: &Record) -> bool
     event.hart < opened.harts && opened.last[usize::from(event.hart)] <= event.stamp
 }
 
+/// The count of an end, behind its tag.
+fn count_of(bytes: &[u8]) -> u64
+    requires { 9 ≤ length bytes.now }
+    ensures spelled { double result ≡ take 8 (drop 1 bytes.now) }
+    ensures fits { result < 2 ^ 64 }
+{
+    let mut field = [0; 8];
+    field.copy_from_slice(&bytes[1..END_LEN]);
+    u64::from_le_bytes(field)
+}
+
 /// What stands at the front of bytes that begin with an end's tag.
 fn end_front(events: u64, bytes: &[u8]) -> Front
     requires tag { HasTag 255 bytes.now }
@@ -62,25 +74,20 @@ fn end_front(events: u64, bytes: &[u8]) -> Front
     if bytes.len() < END_LEN {
         return Front::Begun;
     }
-    let spelled = events.to_le_bytes();
-    let count = &bytes[1..END_LEN];
-    if count == spelled.as_slice() {
+    if count_of(bytes) == events {
         Front::End
     } else {
         Front::Wrong
     }
 }
 
-/// What stands at the front of bytes behind a header or a record.
-pub(crate) fn front_of(opened: &Opened, bytes: &[u8]) -> Front
-    requires { IsSound opened.now }
+/// What stands at the front of bytes that begin with another tag.
+fn record_front(opened: &Opened, bytes: &[u8]) -> Front
+    requires sound { IsSound opened.now }
+    requires some { 0 < length bytes.now }
+    requires tag { slice_index bytes.now 0 ≢ 255 }
     ensures { IsFront (reading_of opened.now) bytes.now result }
 {
-    if let Some(tag) = bytes.first()
-        && *tag == END
-    {
-        return end_front(opened.events, bytes);
-    }
     match decode_in(opened.version, &opened.last, bytes) {
         Decoded::Got { event, len } => {
             if may_follow(opened, &event) {
@@ -91,5 +98,20 @@ pub(crate) fn front_of(opened: &Opened, bytes: &[u8]) -> Front
         }
         Decoded::Short => Front::Begun,
         Decoded::Bad { .. } => Front::Wrong,
+    }
+}
+
+/// What stands at the front of bytes behind a header or a record.
+pub(crate) fn front_of(opened: &Opened, bytes: &[u8]) -> Front
+    requires { IsSound opened.now }
+    ensures { IsFront (reading_of opened.now) bytes.now result }
+{
+    if bytes.is_empty() {
+        return Front::Begun;
+    }
+    if bytes[0] == END {
+        end_front(opened.events, bytes)
+    } else {
+        record_front(opened, bytes)
     }
 }

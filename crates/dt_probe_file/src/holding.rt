@@ -1,4 +1,4 @@
-ghost use Rattle.std.specs.Prelude.{◌≡◌, ◌<◌, ◌≤◌, ◌++◌, [], length, drop, take, option_map, IfOk, IfSome, OnErr};
+ghost use Rattle.std.specs.Prelude.{◌≡◌, ◌<◌, ◌≤◌, ◌+◌, ◌++◌, [], true, false, length, drop, take, option_map, IfOk, IfSome, OnErr};
 ghost use Rattle.dt_source.specs.Faults.{Rose};
 ghost use Rattle.dt_probe_file.specs.Told.{whole};
 

@@ -1,0 +1,2 @@
+-- Steps of the reader.
+use Rattle.std.proofs.Common.{ℕ}
