@@ -1,8 +1,10 @@
 -- What the answer to bytes as one record tells of the bytes behind a header or a record.
 use Rattle.std.proofs.Common.{◌≡◌, ℕ, zero, suc, ◌+◌, ◌^◌, ◌<◌, ◌≤◌, ◌⊎◌, inl, inr, List, [], ◌∷◌, ◌++◌, length, take, drop, get_or, refl, sym, ap, ◌∙◌, subst, append_assoc, arith}
-use Rattle.std.specs.Prelude.{◌↔◌}
+use Rattle.std.specs.Prelude.{◌↔◌, Bool, true, ◌==◌}
+use Rattle.std.specs.Int.{from_le_bytes, w64}
+use Rattle.std.proofs.lemmas.Bool.{eqb-true}
 use Rattle.std.proofs.lemmas.Bool.{cases_lt}
-use Rattle.std.proofs.lemmas.List.{append-nil, length-append, drop_at, take-append-drop}
+use Rattle.std.proofs.lemmas.List.{append-nil, length-append, length-take, length-drop, take_at, drop_at, take-append-drop}
 use Rattle.std.proofs.Math.ListN.{get_or-append}
 use Rattle.dt_record.specs.declared.records.Record.{Record}
 use Rattle.dt_record.specs.Spelling.{Version, One, Two, record_bytes, short_bytes, double, end_bytes}
@@ -11,6 +13,8 @@ use Rattle.dt_record_bytes.specs.declared.decoded.Decoded.{Decoded}
 use Rattle.dt_record_bytes.specs.declared.decoded.Decoded.TheVariants as answers
 use Rattle.dt_record_bytes.specs.ShortForms.{MayFollow, StartsWith, IsGot}
 use Rattle.dt_record_bytes.proofs.Apart.{doubles_are_one}
+use Rattle.dt_record_bytes.proofs.Fields.{double_at_front, length-double}
+use Rattle.dt_probe_file.specs.HeaderFields.{get_or_behind}
 use Rattle.dt_probe_file.specs.declared.fronts.Front.{Front}
 use Rattle.dt_probe_file.specs.declared.fronts.Front.TheVariants as fronts
 use Rattle.dt_probe_file.specs.Fronts.{IsRead, LacksRecord, IsDecoded, IsFront, IsEndFront, HasTag}
@@ -205,3 +209,18 @@ end_isnt (b ∷ bytes) found count long is fits few other more rest e =
     let spelled : bytes ≡ double found ++ drop 8 bytes = sym (take-append-drop 8 bytes) ∙ ap (λ (z : List ℕ). z ++ drop 8 bytes) (sym is) in
     let both : double found ++ (drop 8 bytes ++ more) ≡ double count ++ rest = sym (append_assoc (double found) (drop 8 bytes) more) ∙ ap (λ (z : List ℕ). z ++ more) (sym spelled) ∙ behind in
     other (doubles_are_one found count (drop 8 bytes ++ more) rest fits few both).0
+
+pub empty_of : (bytes : List ℕ) → true ≡ (length bytes == 0) → bytes ≡ []
+empty_of [] e = refl
+empty_of (b ∷ bytes) e = absurd (let none : suc (length bytes) ≡ 0 = eqb-true (suc (length bytes)) 0 (sym e) in omega arith)
+
+pub tag_of : (bytes : List ℕ) → get_or bytes 0 0 ≡ 255 → HasTag 255 bytes
+tag_of [] e = absurd (omega (arith, e))
+tag_of (b ∷ bytes) e = (bytes, ap (λ (n : ℕ). n ∷ bytes) e)
+
+pub count_spelled : (bytes field : List ℕ) (n : ℕ) → 9 ≤ length bytes → ((i : ℕ) → get_or bytes i 0 < 256) → field ≡ take 8 (drop 1 bytes) → n ≡ from_le_bytes w64 field → double n ≡ take 8 (drop 1 bytes)
+count_spelled bytes field n long each is number =
+    let size : length field ≡ 8 = omega (arith, ap length is, length-take 8 (drop 1 bytes), length-drop 1 bytes) in
+    let spelled : drop 1 bytes ≡ double n ++ drop 8 (drop 1 bytes) =
+    double_at_front (drop 1 bytes) field field (drop 8 (drop 1 bytes)) n refl is refl size (λ i. subst (λ (b : ℕ). b < 256) (sym (get_or_behind bytes 1 i)) (each (1 + i))) number in
+    sym (ap (take 8) spelled ∙ take_at (double n) (drop 8 (drop 1 bytes)) 8 (length-double n))

@@ -1,5 +1,6 @@
 pub mod Deciding
 pub mod Files
+pub mod Heading
 pub mod HeldParts
 pub mod OneAnswer
 pub mod Stepping

@@ -10,7 +10,7 @@ use Rattle.dt_record.specs.ProbeFile.{header_bytes}
 use Rattle.dt_record.specs.Answers.{Reading, opened, header_fault, after_record, GoesOn, HasRoom, IsBroken, IsMalformed, IsLimit, AreAnswersAfter, AreAnswers}
 use Rattle.dt_record.specs.Streams.{TakesAnswer}
 use Rattle.dt_probe_file.specs.declared.reading.Opened.{Opened}
-use Rattle.dt_probe_file.specs.Told.{answers_of, answers_after, answers_left, whole, ended_by, left_of}
+use Rattle.dt_probe_file.specs.Told.{answers_of, answers_after, answers_left, ended_by, left_of}
 use Rattle.dt_probe_file.specs.Exists.{told_of, told_after}
 use Rattle.dt_probe_file.proofs.OneAnswer.{after_is_one, answers_are_one}
 

@@ -66,7 +66,7 @@ same_bytes : (xs ys : List ℕ) → Dec (xs ≡ ys)
 same_bytes xs ys = by_test (bytes_eq xs ys) (bytes_decides xs ys).0 (bytes_decides xs ys).1
 
 test_holds : (t : Bool) → Dec (IsTrue t)
-test_holds true = inl tt
+test_holds true = inl refl
 test_holds false = inr (λ h. cc)
 
 each_below : (bound : ℕ) (xs : List ℕ) → Dec (AllByRecursion (λ x. x < bound) xs)

@@ -164,7 +164,7 @@ fit_false may (suc n) j [] lt wrong = refl
 fit_false may (suc n) zero (b ∷ d) lt wrong = first_false _ _ (wrong (omega arith))
 fit_false may (suc n) (suc j) (b ∷ d) lt wrong = second_false _ _ (fit_false (λ i. may (suc i)) n j d (omega arith) (λ within. wrong (omega arith)))
 
-get_or_behind : (x : List ℕ) (p j : ℕ) → get_or (drop p x) j 0 ≡ get_or x (p + j) 0
+pub get_or_behind : (x : List ℕ) (p j : ℕ) → get_or (drop p x) j 0 ≡ get_or x (p + j) 0
 get_or_behind x zero j = ap (λ (n : ℕ). get_or x n 0) (let e : j ≡ 0 + j = omega arith in e)
 get_or_behind [] (suc p) j = refl
 get_or_behind (b ∷ x) (suc p) j =

@@ -23,10 +23,6 @@ abbrev pub answers_left : Option Opened → List ℕ → List Next
 answers_left None bytes = answers_of bytes
 answers_left (Some o) bytes = answers_after (reading_of o) bytes
 
--- the bytes that are held and those that the source has left
-abbrev pub whole : List ℕ → Option (List ℕ) → Option (List ℕ)
-whole held left = option_map (λ rest. held ++ rest) left
-
 -- the answer after which none comes
 abbrev pub ended_by : Next → Option Next
 ended_by (Header harts wide) = None

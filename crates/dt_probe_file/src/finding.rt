@@ -2,7 +2,7 @@ ghost use Rattle.std.specs.Prelude.{◌≡◌, ◌≤◌};
 ghost use Rattle.dt_source.specs.Faults.{Rose};
 ghost use Rattle.dt_probe_file.specs.Fronts.{IsSound, reading_of};
 ghost use Rattle.dt_probe_file.specs.Found.{IsFound, IsHeard};
-ghost use Rattle.dt_probe_file.specs.Told.{whole};
+ghost use Rattle.dt_probe_file.specs.Parts.{whole};
 
 use crate::fronts::{Front, front_of};
 use crate::headers::{Heading, heading_of};

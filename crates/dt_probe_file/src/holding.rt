@@ -1,6 +1,6 @@
-ghost use Rattle.std.specs.Prelude.{◌≡◌, ◌<◌, ◌≤◌, ◌+◌, ◌++◌, [], true, false, length, drop, take, option_map, IfOk, IfSome, OnErr};
+ghost use Rattle.std.specs.Prelude.{◌≡◌, ◌<◌, ◌≤◌, ◌+◌, ◌-◌, ◌++◌, [], true, false, length, drop, take, option_map, IfOk, IfSome, OnErr};
 ghost use Rattle.dt_source.specs.Faults.{Rose};
-ghost use Rattle.dt_probe_file.specs.Told.{whole};
+ghost use Rattle.dt_probe_file.specs.Parts.{part, whole};
 
 use dt_source::{Failed, Source, read_behind};
 use std::alloc::{AllocError, Global};
@@ -22,7 +22,9 @@ impl Model for Held {
 
     ghost Value = { List ℕ };
 
-    ghost view = { λ h. take (h.end - h.start) (drop h.start h.bytes.items) };
+    ghost use Rattle.dt_probe_file.specs.Parts.{part};
+
+    ghost view = { λ h. part h.start h.end h.bytes.items };
 
     ghost invariant = { λ h. (h.start ≤ h.end) × (h.end ≤ 4096) × (vec_len h.bytes ≡ 4096) };
 }
@@ -35,6 +37,52 @@ fn move_to_front(bytes: &mut [u8], start: usize, len: usize)
 {
     let (front, back) = bytes.split_at_mut(start);
     front[..len].copy_from_slice(&back[..len]);
+}
+
+/// Makes room behind the bytes between two places, and says where they are then. They are moved
+/// only where the whole room was used.
+fn make_room(bytes: &mut [u8], start: usize, end: usize) -> (usize, usize)
+    requires order { start ≤ end }
+    requires within { end ≤ 4096 }
+    requires whole { length bytes.old ≡ 4096 }
+    requires few { end < start + 1024 }
+    ensures order { result.0 ≤ result.1 }
+    ensures room { result.1 < 4096 }
+    ensures same { part result.0 result.1 bytes.new ≡ part start end bytes.old }
+{
+    if end < ROOM {
+        return (start, end);
+    }
+    let len = end - start;
+    move_to_front(bytes, start, len);
+    (0, len)
+}
+
+/// Reads more bytes behind those between two places, and says whether there were any.
+fn read_on<S: Source>(
+    source: &mut S,
+    bytes: &mut [u8],
+    start: &mut usize,
+    end: &mut usize,
+) -> Result<bool, Failed>
+    requires order { start.old ≤ end.old }
+    requires within { end.old ≤ 4096 }
+    requires whole { length bytes.old ≡ 4096 }
+    requires few { end.old < start.old + 1024 }
+    ensures order { start.new ≤ end.new }
+    ensures within { end.new ≤ 4096 }
+    ensures whole { whole (part start.new end.new bytes.new) (S.left source.new) ≡ whole (part start.old end.old bytes.old) (S.left source.old) }
+    ensures more { result ≡ Ok true → end.old - start.old < end.new - start.new }
+    ensures end { result ≡ Ok false → (part start.new end.new bytes.new ≡ part start.old end.old bytes.old) × IfSome (S.left source.new) (λ rest. rest ≡ []) }
+    ensures failed_only { OnErr result (Rose (S.faults source.old) (S.faults source.new)) }
+    ensures never_falls { S.faults source.old ≤ S.faults source.new }
+{
+    let (first, last) = make_room(bytes, *start, *end);
+    *start = first;
+    *end = last;
+    let count = read_behind(source, bytes, last)?;
+    *end = last + count;
+    Ok(count != 0)
 }
 
 impl Held {
@@ -63,19 +111,6 @@ impl Held {
         self.start += count;
     }
 
-    /// Sees that there is room behind the bytes. They are moved only where the whole room was used.
-    fn make_room(&mut self)
-        requires { length self.old < 1024 }
-        ensures { self.new ≡ self.old }
-    {
-        if self.end == ROOM {
-            let len = self.end - self.start;
-            move_to_front(&mut self.bytes, self.start, len);
-            self.start = 0;
-            self.end = len;
-        }
-    }
-
     /// Reads more bytes behind those that are held, and says whether there were any.
     pub(crate) fn read<S: Source>(&mut self, source: &mut S) -> Result<bool, Failed>
         requires { length self.old < 1024 }
@@ -85,9 +120,6 @@ impl Held {
         ensures failed_only { OnErr result (Rose (S.faults source.old) (S.faults source.new)) }
         ensures never_falls { S.faults source.old ≤ S.faults source.new }
     {
-        self.make_room();
-        let count = read_behind(source, &mut self.bytes, self.end)?;
-        self.end += count;
-        Ok(count != 0)
+        read_on(source, &mut self.bytes, &mut self.start, &mut self.end)
     }
 }

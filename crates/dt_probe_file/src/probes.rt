@@ -1,8 +1,9 @@
-ghost use Rattle.std.specs.Prelude.{◌≡◌, ◌≤◌, ◌↔◌, None, IfOk, IfSome, IsTrue, IsSome, IsNone};
+ghost use Rattle.std.specs.Prelude.{◌≡◌, ◌≤◌, ◌↔◌, None, IfOk, ForSome, IsTrue, IsSome, IsNone};
 ghost use Rattle.dt_record.specs.Streams.{Continues, TakesAnswer, Rose, IsFresh};
 ghost use Rattle.dt_record.specs.declared.streams.Next.{Next};
 ghost use Rattle.dt_probe_file.specs.Fronts.{IsSound};
-ghost use Rattle.dt_probe_file.specs.Told.{AreToldOf, whole, ended_by, left_of, progress_of};
+ghost use Rattle.dt_probe_file.specs.Parts.{whole};
+ghost use Rattle.dt_probe_file.specs.Told.{AreToldOf, ended_by, left_of, progress_of};
 
 use crate::holding::Held;
 use crate::reading::Opened;
@@ -21,7 +22,7 @@ pub struct FileProbes<S: Source> {
     opened: Option<Opened>,
     /// The answer that ended the stream.
     ended: Option<Next>,
-    ghost sound: { IfSome opened IsSound },
+    ghost sound: { ForSome opened IsSound },
 }
 
 /// The answer itself, if none comes after it.

@@ -2,7 +2,8 @@ ghost use Rattle.std.specs.Prelude.{◌≡◌, ◌≢◌, ◌<◌, ◌≤◌, �
 ghost use Rattle.dt_record.specs.Streams.{Continues, Rose};
 ghost use Rattle.dt_probe_file.specs.declared.fronts.Front.TheVariants as fronts;
 ghost use Rattle.dt_probe_file.specs.Fronts.{IsSound, IsFront, reading_of};
-ghost use Rattle.dt_probe_file.specs.Told.{Takes, whole, ended_by, progress_of};
+ghost use Rattle.dt_probe_file.specs.Parts.{whole};
+ghost use Rattle.dt_probe_file.specs.Told.{Takes, ended_by, progress_of};
 
 use crate::finding::{Found, Heard, find, hear};
 use crate::fronts::END_LEN;
