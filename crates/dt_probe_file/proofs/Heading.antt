@@ -27,13 +27,13 @@ same_parts : (u : spelling.Version) (x : List ℕ) (harts : ℕ) (wide : Bool) (
 same_parts u x harts wide rest a b d =
     ap (λ (n : ℕ). header_bytes u n (not (get_or x 11 0 == 0)) ++ drop 16 x) a ∙ ap (λ (w : Bool). header_bytes u harts w ++ drop 16 x) b ∙ ap (λ (z : List ℕ). header_bytes u harts wide ++ z) d
 
+harts_in : (x : List ℕ) (u : spelling.Version) (harts : ℕ) (wide : Bool) (rest : List ℕ) → x ≡ header_bytes u harts wide ++ rest → get_or x 10 0 ≡ harts
+unfolding header_bytes half word
+harts_in x spelling.One harts wide rest e = ap (λ (z : List ℕ). get_or z 10 0) e
+harts_in x spelling.Two harts wide rest e = ap (λ (z : List ℕ). get_or z 10 0) e
+
 harts_are : (x : List ℕ) (h : IsHeader x) → get_or x 10 0 ≡ h.harts
 harts_are x h = harts_in x h.version h.harts h.wide h.rest h.spelled
-  where
-    harts_in : (x : List ℕ) (u : spelling.Version) (harts : ℕ) (wide : Bool) (rest : List ℕ) → x ≡ header_bytes u harts wide ++ rest → get_or x 10 0 ≡ harts
-    unfolding header_bytes half word
-    harts_in x spelling.One harts wide rest e = ap (λ (z : List ℕ). get_or z 10 0) e
-    harts_in x spelling.Two harts wide rest e = ap (λ (z : List ℕ). get_or z 10 0) e
 
 -- the version, the harts and the flag of a header stand in three of its bytes
 told_header : (x : List ℕ) (v : Version) (u : spelling.Version) (harts : ℕ) (wide : Bool) (rest : List ℕ) → x ≡ header_bytes u harts wide ++ rest → FollowsByte v (get_or x 8 0)

@@ -1,5 +1,6 @@
 -- Bytes that are held in a part of a longer list.
-use Rattle.std.proofs.Common.{◌≡◌, ℕ, ◌+◌, ◌-◌, ◌<◌, ◌≤◌, List, [], ◌++◌, length, take, drop, Option, Some, None, IfSome, refl, sym, ap, ◌∙◌, subst, append_assoc, arith}
+use Rattle.std.specs.Prelude.{◌==◌}
+use Rattle.std.proofs.Common.{◌≡◌, ℕ, zero, suc, Bool, true, false, not, ◌+◌, ◌-◌, ◌<◌, ◌≤◌, List, [], ◌++◌, length, take, drop, Option, Some, None, IfSome, refl, sym, ap, ◌∙◌, subst, append_assoc, arith}
 use Rattle.std.proofs.lemmas.List.{drop-take, length-take, length-drop, drop-drop, append-nil}
 use Rattle.std.proofs.Math.Seq.{take-add}
 use Rattle.dt_source.specs.Known.{TakesFrom}
@@ -43,3 +44,14 @@ at_end P held new (Some rest) is same end = subst P (sym (append-nil held) ∙ a
 pub for_good : (P : List ℕ → Type 0) (held : List ℕ) (left : Option (List ℕ)) → ((more : List ℕ) → P (held ++ more)) → IfSome left (λ rest. P (held ++ rest))
 for_good P held None is = tt
 for_good P held (Some rest) is = is rest
+
+pub some_more : (n : ℕ) → not (n == 0) ≡ true → 0 < n
+some_more zero e = absurd cc
+some_more (suc n) e = omega arith
+
+pub no_more : (n : ℕ) → not (n == 0) ≡ false → n ≡ 0
+no_more zero e = refl
+no_more (suc n) e = absurd (let wrong : true ≡ false = e in cc)
+
+pub part_same : (start end count : ℕ) (bytes : List ℕ) → count ≡ 0 → part start (end + count) bytes ≡ part start end bytes
+part_same start end count bytes none = ap (λ (n : ℕ). part start n bytes) (let e : end + count ≡ end = omega arith in e)

@@ -74,7 +74,7 @@ wrong_told o held (Some rest) old same broken =
 
 pub fault_told : (o after : Option Opened) (held : List ℕ) (left old : Option (List ℕ)) → whole held left ≡ old → Takes o old ReadFault after (whole held left)
 fault_told o after held None old same = moved o None old ReadFault after None same refl
-fault_told o after held (Some rest) old same = moved o (Some (held ++ rest)) old ReadFault after (Some (held ++ rest)) same tt
+fault_told o after held (Some rest) old same = moved o (Some (held ++ rest)) old ReadFault after (Some (held ++ rest)) same refl
 
 some_is_one : (x y : List ℕ) → Some x ≡ Some y → x ≡ y
 some_is_one x y e = cc

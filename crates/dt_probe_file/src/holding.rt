@@ -48,6 +48,7 @@ fn make_room(bytes: &mut [u8], start: usize, end: usize) -> (usize, usize)
     requires few { end < start + 1024 }
     ensures order { result.0 ≤ result.1 }
     ensures room { result.1 < 4096 }
+    ensures size { result.1 - result.0 ≡ end - start }
     ensures same { part result.0 result.1 bytes.new ≡ part start end bytes.old }
 {
     if end < ROOM {

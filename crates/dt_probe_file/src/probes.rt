@@ -1,4 +1,5 @@
-ghost use Rattle.std.specs.Prelude.{◌≡◌, ◌≤◌, ◌↔◌, None, IfOk, ForSome, IsTrue, IsSome, IsNone};
+ghost use Rattle.std.specs.Prelude.{◌≡◌, ◌≤◌, ◌↔◌, None, IfOk, IsTrue, IsSome, IsNone};
+ghost use Rattle.std.specs.Option.{ForSome};
 ghost use Rattle.dt_record.specs.Streams.{Continues, TakesAnswer, Rose, IsFresh};
 ghost use Rattle.dt_record.specs.declared.streams.Next.{Next};
 ghost use Rattle.dt_probe_file.specs.Fronts.{IsSound};
