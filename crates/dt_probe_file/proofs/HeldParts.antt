@@ -2,6 +2,7 @@
 use Rattle.std.specs.Prelude.{◌==◌}
 use Rattle.std.proofs.Common.{◌≡◌, ℕ, zero, suc, Bool, true, false, not, ◌+◌, ◌-◌, ◌<◌, ◌≤◌, List, [], ◌++◌, length, take, drop, Option, Some, None, IfSome, refl, sym, ap, ◌∙◌, subst, append_assoc, arith}
 use Rattle.std.proofs.lemmas.List.{drop-take, length-take, length-drop, drop-drop, append-nil}
+use Rattle.std.proofs.lemmas.Bool.{eqb-true}
 use Rattle.std.proofs.Math.Seq.{take-add}
 use Rattle.dt_source.specs.Known.{TakesFrom}
 use Rattle.dt_probe_file.specs.Parts.{part, whole}
@@ -49,9 +50,12 @@ pub some_more : (n : ℕ) → not (n == 0) ≡ true → 0 < n
 some_more zero e = absurd cc
 some_more (suc n) e = omega arith
 
+not_back : (t : Bool) → not t ≡ false → t ≡ true
+not_back true e = refl
+not_back false e = absurd cc
+
 pub no_more : (n : ℕ) → not (n == 0) ≡ false → n ≡ 0
-no_more zero e = refl
-no_more (suc n) e = absurd (let wrong : true ≡ false = e in cc)
+no_more n e = eqb-true n 0 (not_back (n == 0) e)
 
 pub part_same : (start end count : ℕ) (bytes : List ℕ) → count ≡ 0 → part start (end + count) bytes ≡ part start end bytes
 part_same start end count bytes none = ap (λ (n : ℕ). part start n bytes) (let e : end + count ≡ end = omega arith in e)

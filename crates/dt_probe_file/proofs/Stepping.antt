@@ -1,5 +1,6 @@
 -- Steps of the reader: what an answer takes of those that are left, and what it tells.
 use Rattle.std.proofs.Common.{◌≡◌, ℕ, ◌+◌, ◌<◌, ◌≤◌, ◌⊎◌, inl, inr, Bool, List, [], ◌∷◌, ◌++◌, length, drop, Option, Some, None, IfSome, refl, sym, ap, ◌∙◌, subst, append_assoc, arith}
+use Rattle.std.specs.Option.{option_map}
 use Rattle.std.proofs.lemmas.List.{append-nil}
 use Rattle.dt_record.specs.declared.records.Record.{Record}
 use Rattle.dt_record.specs.declared.writes.What.{What}
@@ -7,8 +8,8 @@ use Rattle.dt_record.specs.declared.streams.Next.{Next}
 use Rattle.dt_record.specs.declared.streams.Next.TheVariants.{Header, Event, End, Malformed, Limit, ReadFault, OutOfMemory}
 use Rattle.dt_record.specs.Spelling.{Version, end_bytes}
 use Rattle.dt_record.specs.ProbeFile.{IsNext, header_bytes}
-use Rattle.dt_record.specs.Answers.{Reading, opened, header_fault, after_record, spelled_next, GoesOn, HasRoom, IsBroken, IsTooMany}
-use Rattle.dt_record.specs.Streams.{TakesAnswer, TakesRecord}
+use Rattle.dt_record.specs.Answers.{Reading, opened, header_fault, AreAnswers, after_record, spelled_next, GoesOn, HasRoom, IsBroken, IsTooMany}
+use Rattle.dt_record.specs.Streams.{TakesAnswer, TakesHeader, TakesRecord}
 use Rattle.dt_probe_file.specs.declared.reading.Version.{Version as Form}
 use Rattle.dt_probe_file.specs.declared.reading.Opened.{Opened}
 use Rattle.dt_probe_file.specs.declared.fronts.Front.TheVariants as fronts
@@ -16,8 +17,8 @@ use Rattle.dt_probe_file.specs.declared.headers.Heading.TheVariants as headings
 use Rattle.dt_probe_file.specs.Fronts.{version_of, reading_of, first_too_many, IsFront}
 use Rattle.dt_probe_file.specs.Headers.{IsHeading}
 use Rattle.dt_probe_file.specs.Parts.{whole}
-use Rattle.dt_probe_file.specs.Told.{answers_of, answers_after, ended_by, left_of, Takes, progress_of}
-use Rattle.dt_probe_file.proofs.Telling.{tell_event, tell_end, tell_malformed, tell_limit, tell_header, tell_fault}
+use Rattle.dt_probe_file.specs.Told.{answers_of, answers_after, answers_left, ended_by, left_of, Takes, progress_of, AreToldOf}
+use Rattle.dt_probe_file.proofs.Telling.{tell_event, tell_end, tell_malformed, tell_limit, tell_header, tell_fault, of_are}
 
 goes_further : (s : Reading) (held : List ℕ) (r : Record) (len : ℕ) (rest : List ℕ) → IsFront s held (fronts.Event r len) → GoesOn s (held ++ rest) r (drop len held ++ rest)
 goes_further s held r len rest front = record {
@@ -117,3 +118,21 @@ pub no_header_told : (field : ℕ) (held : List ℕ) (left old : Option (List �
 no_header_told field held None old same wrong = moved None None old (Malformed field) None None same refl
 no_header_told field held (Some rest) old same wrong =
     moved None (Some (held ++ rest)) old (Malformed field) None (Some (held ++ rest)) same ([], tell_fault (held ++ rest) field wrong, refl)
+
+pub takes_header : (o : Opened) (harts : ℕ) (wide : Bool) (v : Version) → 1 ≤ harts → harts ≤ 8 → reading_of o ≡ opened v harts → o.harts ≡ harts → o.wide ≡ wide → TakesHeader (progress_of None None) harts wide (progress_of (Some o) None)
+takes_header o harts wide v some few is harts_are wide_is = record {
+  first = refl;
+  some_hart = some;
+  few_harts = few;
+  harts_are = ap (λ (k : ℕ). Some k) harts_are;
+  wide_is = wide_is;
+  no_stamps = λ hart. ap (λ (s : Reading). s.last hart) is;
+  no_events = ap (λ (s : Reading). s.events) is;
+  no_writes = ap (λ (s : Reading). s.writes) is;
+  open_still = refl;
+}
+
+-- a new stream tells the answers of all bytes
+pub told_fresh : (left : Option (List ℕ)) (held : List ℕ) → held ≡ [] → AreToldOf left (option_map (answers_left None) (whole held left))
+told_fresh None held is = refl
+told_fresh (Some bytes) held is = (answers_of (held ++ bytes), refl, subst (λ (h : List ℕ). AreAnswers bytes (answers_of (h ++ bytes))) (sym is) (of_are bytes))

@@ -1,11 +1,15 @@
 use Rattle.std.proofs.Common.{◌≡◌, ◌<◌, length, get_or, subst, sym, arith}
-use Rattle.dt_probe_file.proofs.Heading.{whole_header, begun_header, wrong_header}
+use Rattle.dt_probe_file.proofs.Heading.{FollowsByte, whole_header, begun_header, wrong_header}
+use Rattle.dt_probe_file.specs.declared.reading.Version.{Version}
 use Rattle.dt_probe_file.proofs.headers.heading_of.Goals as goal
 use Rattle.dt_probe_file.proofs.headers.heading_of.Goals.{then-bytes-eq1, else-bytes-eq1}
 
 pub returns-then-right-eq-HEADER_LEN : goal.returns-then-right-eq-HEADER_LEN
 returns-then-right-eq-HEADER_LEN c = whole_header c.args.bytes.now c.right_bytes-right.result c.if-bytes-eq1.version c.if-right-eq-HEADER_LEN.true c.right_bytes-right.ensures.inside c.right_bytes-right.ensures.right
-    (elim c.if-bytes-eq1.branch [ then-bytes-eq1 w ↦ ? | else-bytes-eq1 w ↦ ? ])
+    (elim c.if-bytes-eq1.branch [
+      | then-bytes-eq1 w ↦ subst (λ (v : Version). FollowsByte v (get_or c.args.bytes.now 8 0)) (sym w.version-is) w.if-bytes-eq1.true
+      | else-bytes-eq1 w ↦ subst (λ (v : Version). FollowsByte v (get_or c.args.bytes.now 8 0)) (sym w.version-is) w.if-bytes-eq1.false
+    ])
 
 pub returns-then-right-bytes : goal.returns-then-right-bytes
 returns-then-right-bytes c =
