@@ -35,8 +35,7 @@ pub short_got : (last : ℕ → ℕ) (l : ℕ) (bytes : List ℕ) (r : Record) (
 short_got last l bytes r len is got =
     let h = got.2 in
     let same : l ≡ last r.hart = is (two_at_least l bytes r got.1 h.spelled) ∙ ap last (second_of l bytes r got.1 h.spelled) in
-    let behind : got.1 ≡ drop len bytes = sym (ap (drop len) h.spelled ∙ drop_at (short_bytes l r) got.1 len (sym got.0)) in
-    (
+    let behind : got.1 ≡ drop len bytes = sym (ap (drop len) h.spelled ∙ drop_at (short_bytes l r) got.1 len (sym got.0)) in (
       record {
         fits = h.follows.fits;
         lawful = h.follows.lawful;

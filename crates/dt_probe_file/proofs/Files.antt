@@ -35,8 +35,7 @@ gives s (r ∷ records) bytes count h =
     let records_are = h.few_records in
     let count_is = h.count_is in
     let rest = records_bytes s.version (stamped s.last r) records ++ end_bytes count in
-    let spelled : bytes ≡ spelled_next s r ++ rest = h.spelled ∙ append_assoc (spelled_next s r) (records_bytes s.version (stamped s.last r) records) (end_bytes count) in
-    (
+    let spelled : bytes ≡ spelled_next s r ++ rest = h.spelled ∙ append_assoc (spelled_next s r) (records_bytes s.version (stamped s.last r) records) (end_bytes count) in (
       rest,
       record { spelled = spelled; next = h.each.0 },
       record { few_records = omega arith; few_writes = omega arith },
@@ -76,8 +75,7 @@ file_gives bytes version harts wide records f =
     let records_are = f.few_records in
     let writes_are = f.few_writes in
     let within : AreWithin (opened version harts) records (records_bytes version no_stamps records ++ end_bytes (length records)) (length records) =
-    record { spelled = refl; each = f.each; count_is = omega arith; few_records = omega arith; few_writes = omega arith } in
-    (
+    record { spelled = refl; each = f.each; count_is = omega arith; few_records = omega arith; few_writes = omega arith } in (
       version,
       record {
         some_hart = f.some_hart;
@@ -95,8 +93,7 @@ file_given bytes harts wide records count a =
     let count_is : count ≡ length records = (let e = within.count_is in omega arith) in
     let writes_are = within.few_writes in
     let records_are = within.few_records in
-    let spelled : h.rest ≡ records_bytes a.0 no_stamps records ++ end_bytes (length records) = within.spelled ∙ ap (λ (n : ℕ). records_bytes a.0 no_stamps records ++ end_bytes n) count_is in
-    (
+    let spelled : h.rest ≡ records_bytes a.0 no_stamps records ++ end_bytes (length records) = within.spelled ∙ ap (λ (n : ℕ). records_bytes a.0 no_stamps records ++ end_bytes n) count_is in (
       count_is,
       (
         a.0,

@@ -109,8 +109,8 @@ header_told v harts wide o held behind left old h is left_is same =
     (λ rest. (
       answers_after (reading_of o) (behind ++ rest),
       tell_header (held ++ rest) (version_of v) harts wide (drop 16 held ++ rest) h.1 h.2 (ap (λ (z : List ℕ). z ++ rest) h.0 ∙ append_assoc (header_bytes (version_of v) harts wide) (drop 16 held) rest)
-      ∙ ap (λ (z : List ℕ). Header harts wide ∷ answers_after (opened (version_of v) harts) (z ++ rest)) (sym left_is)
-      ∙ ap (λ (s : Reading). Header harts wide ∷ answers_after s (behind ++ rest)) (sym is),
+          ∙ ap (λ (z : List ℕ). Header harts wide ∷ answers_after (opened (version_of v) harts) (z ++ rest)) (sym left_is)
+          ∙ ap (λ (s : Reading). Header harts wide ∷ answers_after s (behind ++ rest)) (sym is),
       refl,
     ))
 

@@ -185,9 +185,9 @@ wrong x k p n is le lt =
     let place : p + (k - p) ≡ k = omega arith in
     fit_false (from p) n (k - p) (drop p x) (omega arith)
     (λ within.
-        let inside : k < length x = omega (arith, length-drop p x) in
-        subst (λ (m : ℕ). header_byte (p + (k - p)) m ≡ false) (sym (get_or_behind x p (k - p)))
-        (subst (λ (m : ℕ). header_byte m (get_or x m 0) ≡ false) (sym place) (is inside)))
+    let inside : k < length x = omega (arith, length-drop p x) in
+    subst (λ (m : ℕ). header_byte (p + (k - p)) m ≡ false) (sym (get_or_behind x p (k - p)))
+    (subst (λ (m : ℕ). header_byte m (get_or x m 0) ≡ false) (sym place) (is inside)))
 
 start_0 : (k : ℕ) → k < 8 → field_start k ≡ 0
 start_0 k lt = ap (λ (t : Bool). cond t 0 (cond (nat_lt k 10) 8 (cond (nat_lt k 11) 10 (cond (nat_lt k 12) 11 12)))) (lt-ltb k 8 lt)

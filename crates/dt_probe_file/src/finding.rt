@@ -20,7 +20,9 @@ pub(crate) enum Heard {
         wide: bool,
     },
     /// There is no header: the place of its first field that isn't whole or is wrong.
-    Wrong { field: usize },
+    Wrong {
+        field: usize,
+    },
     /// A read failed.
     Failed,
 }

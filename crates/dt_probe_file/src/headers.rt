@@ -18,9 +18,13 @@ pub(crate) enum Heading {
         wide: bool,
     },
     /// The beginning of a header, and the place of its first field that isn't whole.
-    Begun { field: usize },
+    Begun {
+        field: usize,
+    },
     /// No header, whatever follows, and the place of its first field that is wrong.
-    Wrong { field: usize },
+    Wrong {
+        field: usize,
+    },
 }
 
 /// Whether a header may have this byte at this place.

@@ -9,6 +9,8 @@ mod laws;
 mod probes;
 mod reading;
 mod steps;
+#[cfg(test)]
+mod tests;
 
 pub use laws::{file_answers, one_list};
 pub use probes::FileProbes;

@@ -27,10 +27,9 @@ returns-clause-more g c e =
 pub returns-clause-end : goal.returns-clause-end
 returns-clause-end g c e =
     let none : not (c.in_ok-count.count == 0) ≡ false = cc in
-    let zero = no_more c.in_ok-count.count none in
-    (
+    let zero = no_more c.in_ok-count.count none in (
       part_same c.make_room-first.result.0 c.make_room-first.result.1 c.in_ok-count.count c.read_behind.new.buf zero
-      ∙ part_stays c.make_room-first.new.bytes c.read_behind.new.buf c.make_room-first.result.0 c.make_room-first.result.1 c.make_room-first.ensures.order c.read_behind.ensures.front_stays
-      ∙ c.make_room-first.ensures.same,
+          ∙ part_stays c.make_room-first.new.bytes c.read_behind.new.buf c.make_room-first.result.0 c.make_room-first.result.1 c.make_room-first.ensures.order c.read_behind.ensures.front_stays
+          ∙ c.make_room-first.ensures.same,
       c.read_behind.ensures.end (c.in_ok-count.was ∙ ap (λ (n : ℕ). Ok n) zero),
     )
