@@ -2,6 +2,7 @@ use crate::FileProbes;
 use dt_record::{Body, Next, Probes, Record, Retire};
 use dt_source::MemSource;
 use std::alloc::Global;
+use std::process::Abort;
 use std::test::Fail;
 
 /// A file of version 1 in which hart 0 commits addi x1,x0,5 at the start of RAM in cycle 1.
@@ -66,9 +67,9 @@ fn both_versions_give_the_header_the_record_and_the_end(rt: HostRuntime) -> Resu
 }
 
 /// Sees that the bytes end the stream so, in pieces of any size.
-fn ends_malformed(rt: &HostRuntime, bytes: &[u8], offset: u64) -> Result<(), Fail> {
+fn ends_malformed(rt: &impl Abort, alloc: Global, bytes: &[u8], offset: u64) -> Result<(), Fail> {
     for piece in PIECES {
-        let answers = answers_in(rt.alloc(), bytes, piece, &[])?;
+        let answers = answers_in(alloc, bytes, piece, &[])?;
         assert_eq!(rt; answers.last().copied(), Some(Next::Malformed { offset }));
     }
     Ok(())
@@ -97,7 +98,7 @@ fn a_wrong_byte_is_named_at_its_field_or_record(rt: HostRuntime) -> Result<(), F
         if place < bytes.len() {
             bytes[place] = byte;
         }
-        ends_malformed(&rt, &bytes, offset)?;
+        ends_malformed(&rt, rt.alloc(), &bytes, offset)?;
     }
     Ok(())
 }
@@ -118,7 +119,7 @@ fn a_cut_file_is_malformed_at_what_is_not_whole(rt: HostRuntime) -> Result<(), F
         (54, 46),
     ];
     for (len, offset) in cases {
-        ends_malformed(&rt, &WIDE[..len.min(55)], offset)?;
+        ends_malformed(&rt, rt.alloc(), &WIDE[..len.min(55)], offset)?;
     }
     Ok(())
 }
@@ -129,10 +130,10 @@ fn version_2_is_malformed_at_the_record_or_the_end(rt: HostRuntime) -> Result<()
     padded.insert(30, 0)?;
     assert_eq!(rt; padded.len(), 40);
     padded[29] = 0x85;
-    ends_malformed(&rt, &padded, 16)?;
+    ends_malformed(&rt, rt.alloc(), &padded, 16)?;
     let mut counted = SHORT;
     counted[31] = 2;
-    ends_malformed(&rt, &counted, 30)?;
+    ends_malformed(&rt, rt.alloc(), &counted, 30)?;
     Ok(())
 }
 
@@ -140,10 +141,10 @@ fn version_2_is_malformed_at_the_record_or_the_end(rt: HostRuntime) -> Result<()
 fn what_follows_the_end_is_named(rt: HostRuntime) -> Result<(), Fail> {
     let mut longer = WIDE.to_vec(rt.alloc())?;
     longer.push(0)?;
-    ends_malformed(&rt, &longer, 55)?;
+    ends_malformed(&rt, rt.alloc(), &longer, 55)?;
     let mut twice = WIDE.to_vec(rt.alloc())?;
     twice.extend_from_slice(&WIDE[46..])?;
-    ends_malformed(&rt, &twice, 55)?;
+    ends_malformed(&rt, rt.alloc(), &twice, 55)?;
     Ok(())
 }
 
@@ -153,7 +154,7 @@ fn a_falling_stamp_is_named(rt: HostRuntime) -> Result<(), Fail> {
     second[18] = 0;
     let mut bytes = WIDE[..46].to_vec(rt.alloc())?;
     bytes.extend_from_slice(&second[16..])?;
-    ends_malformed(&rt, &bytes, 46)?;
+    ends_malformed(&rt, rt.alloc(), &bytes, 46)?;
     Ok(())
 }
 
