@@ -1,17 +1,17 @@
 -- What the answer to bytes as one record tells of the bytes behind a header or a record.
-use Rattle.std.proofs.Common.{◌≡◌, ℕ, zero, suc, ◌+◌, ◌^◌, ◌<◌, ◌≤◌, ◌⊎◌, inl, inr, List, [], ◌∷◌, ◌++◌, length, take, drop, get_or, refl, sym, ap, ◌∙◌, subst, append_assoc, arith}
-use Rattle.std.specs.Prelude.{◌↔◌, Bool, true, ◌==◌}
+use Rattle.std.proofs.Common.{◌≡◌, ℕ, suc, ◌+◌, ◌^◌, ◌<◌, ◌≤◌, inl, inr, List, [], ◌∷◌, ◌++◌, length, take, drop, get_or, refl, sym, ap, ◌∙◌, subst, append_assoc, arith}
+use Rattle.std.specs.Prelude.{true, ◌==◌}
 use Rattle.std.specs.Int.{from_le_bytes, w64}
 use Rattle.std.proofs.lemmas.Bool.{eqb-true}
 use Rattle.std.proofs.lemmas.Bool.{cases_lt}
 use Rattle.std.proofs.lemmas.List.{append-nil, length-append, length-take, length-drop, take_at, drop_at, take-append-drop}
 use Rattle.std.proofs.Math.ListN.{get_or-append}
 use Rattle.dt_record.specs.declared.records.Record.{Record}
-use Rattle.dt_record.specs.Spelling.{Version, One, Two, record_bytes, short_bytes, double, end_bytes}
-use Rattle.dt_record.specs.Answers.{Reading, GoesOn, IsBroken}
+use Rattle.dt_record.specs.Spelling.{Version, Two, record_bytes, short_bytes, double, end_bytes}
+use Rattle.dt_record.specs.Answers.{Reading, GoesOn}
 use Rattle.dt_record_bytes.specs.declared.decoded.Decoded.{Decoded}
 use Rattle.dt_record_bytes.specs.declared.decoded.Decoded.TheVariants as answers
-use Rattle.dt_record_bytes.specs.ShortForms.{MayFollow, StartsWith, IsGot}
+use Rattle.dt_record_bytes.specs.ShortForms.{StartsWith, IsGot}
 use Rattle.dt_record_bytes.proofs.Apart.{doubles_are_one}
 use Rattle.dt_record_bytes.proofs.Fields.{double_at_front, length-double}
 use Rattle.dt_probe_file.specs.HeaderFields.{get_or_behind}

@@ -1,12 +1,12 @@
 -- The bytes of a probe file and the answers of one are the same bytes.
-use Rattle.std.proofs.Common.{◌≡◌, ℕ, ◌+◌, ◌<◌, ◌≤◌, Bool, true, false, cond, List, [], ◌∷◌, ◌++◌, length, map, filter, refl, sym, ap, ◌∙◌, subst, append_assoc, arith}
+use Rattle.std.proofs.Common.{◌≡◌, ℕ, ◌+◌, ◌≤◌, Bool, true, false, cond, List, [], ◌∷◌, ◌++◌, length, map, filter, refl, sym, ap, ◌∙◌, append_assoc, arith}
 use Rattle.dt_record.specs.declared.records.Record.{Record}
 use Rattle.dt_record.specs.declared.streams.Next.{Next}
 use Rattle.dt_record.specs.declared.streams.Next.TheVariants.{Header, Event, End}
 use Rattle.dt_record.specs.Spelling.{Version, end_bytes}
 use Rattle.dt_record.specs.ProbeFile.{header_bytes, no_stamps, stamped, records_bytes, AreRecords, IsProbeFile}
 use Rattle.dt_record.specs.Writes.{writes_memory}
-use Rattle.dt_record.specs.Answers.{Reading, opened, after_record, spelled_next, GoesOn, AreAnswersAfter, AreAnswers}
+use Rattle.dt_record.specs.Answers.{Reading, opened, after_record, spelled_next, AreAnswersAfter, AreAnswers}
 
 -- the answers of a file with these records
 abbrev pub file_answers : List Record → ℕ → List Next

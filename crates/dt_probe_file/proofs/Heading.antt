@@ -1,12 +1,11 @@
 -- A header from its bytes.
-use Rattle.std.proofs.Common.{◌≡◌, ℕ, ◌+◌, ◌<◌, ◌≤◌, ◌⊎◌, inl, inr, Bool, true, false, not, IsTrue, List, [], ◌∷◌, ◌++◌, length, drop, get_or, Option, Some, None, refl, sym, ap, ◌∙◌, subst, arith}
+use Rattle.std.proofs.Common.{◌≡◌, ℕ, ◌<◌, ◌≤◌, Bool, true, false, not, IsTrue, List, ◌++◌, length, drop, get_or, Some, sym, ap, ◌∙◌, subst, arith}
 use Rattle.std.specs.Prelude.{◌==◌}
 use Rattle.std.proofs.Math.ListN.{get_or-append}
 use Rattle.std.proofs.lemmas.List.{length-append}
 use Rattle.dt_record.specs.Spelling.{half, word, flag}
 use Rattle.dt_record.specs.Spelling as spelling
 use Rattle.dt_record.specs.ProbeFile.{header_bytes}
-use Rattle.dt_record.specs.Answers.{header_fault}
 use Rattle.dt_probe_file.specs.declared.reading.Version.{Version}
 use Rattle.dt_probe_file.specs.declared.reading.Version.TheVariants.{One, Two}
 use Rattle.dt_probe_file.specs.declared.headers.Heading.TheVariants.{Whole, Begun, Wrong}

@@ -1,7 +1,7 @@
 -- Bytes that are held in a part of a longer list.
 use Rattle.std.specs.Prelude.{◌==◌}
 use Rattle.std.proofs.Common.{◌≡◌, ℕ, zero, suc, Bool, true, false, not, ◌+◌, ◌-◌, ◌<◌, ◌≤◌, List, [], ◌++◌, length, take, drop, Option, Some, None, IfSome, refl, sym, ap, ◌∙◌, subst, append_assoc, arith}
-use Rattle.std.proofs.lemmas.List.{drop-take, length-take, length-drop, drop-drop, append-nil}
+use Rattle.std.proofs.lemmas.List.{drop-take, length-take, drop-drop, append-nil}
 use Rattle.std.proofs.lemmas.Bool.{eqb-true}
 use Rattle.std.proofs.Math.Seq.{take-add}
 use Rattle.dt_source.specs.Known.{TakesFrom}

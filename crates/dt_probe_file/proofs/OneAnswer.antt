@@ -1,5 +1,5 @@
 -- The answers that bytes give are one list.
-use Rattle.std.proofs.Common.{◌≡◌, ℕ, zero, suc, ◌+◌, ◌<◌, ◌≤◌, ◌⊎◌, inl, inr, Bool, true, false, List, [], ◌∷◌, ◌++◌, length, Option, Some, None, refl, sym, ap, ◌∙◌, subst, append_assoc, arith}
+use Rattle.std.proofs.Common.{◌≡◌, ℕ, inl, inr, Bool, List, [], ◌∷◌, ◌++◌, length, Some, None, sym, ap, ◌∙◌, subst, arith}
 use Rattle.std.proofs.lemmas.List.{length-append, append-nil}
 use Rattle.dt_record.specs.declared.records.Record.{Record}
 use Rattle.dt_record.specs.declared.records.Body.{Body}
@@ -10,10 +10,9 @@ use Rattle.dt_record.specs.declared.streams.Next.{Next}
 use Rattle.dt_record.specs.declared.streams.Next.TheVariants.{Header, Event, End, Malformed, Limit, ReadFault, OutOfMemory}
 use Rattle.dt_record.specs.Tags.{tag_number}
 use Rattle.dt_record.specs.Spelling.{Version, One, Two, wide_bytes, short_bytes, record_bytes, end_bytes, double}
-use Rattle.dt_record.specs.ProbeFile.{IsNext, header_bytes}
-use Rattle.dt_record.specs.Answers.{Reading, after_record, writes_with, spelled_next, GoesOn, HasRoom, IsBroken, IsMalformed, IsTooMany, IsLimit, opened, header_fault, AreAnswersAfter, AreOpened, AreAnswers}
+use Rattle.dt_record.specs.Answers.{Reading, after_record, GoesOn, HasRoom, IsMalformed, IsTooMany, IsLimit, opened, header_fault, AreAnswersAfter, AreOpened, AreAnswers}
 use Rattle.dt_probe_file.specs.Proposed.{goes_one}
-use Rattle.dt_probe_file.specs.HeaderFields.{SameHeader, headers_are_one, header_holds}
+use Rattle.dt_probe_file.specs.HeaderFields.{headers_are_one, header_holds}
 
 -- What stands at the front of bytes is one record or an end.
 

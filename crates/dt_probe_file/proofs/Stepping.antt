@@ -1,15 +1,15 @@
 -- Steps of the reader: what an answer takes of those that are left, and what it tells.
-use Rattle.std.proofs.Common.{◌≡◌, ℕ, ◌+◌, ◌<◌, ◌≤◌, ◌⊎◌, inl, inr, Bool, List, [], ◌∷◌, ◌++◌, length, drop, Option, Some, None, IfSome, refl, sym, ap, ◌∙◌, subst, append_assoc, arith}
+use Rattle.std.proofs.Common.{◌≡◌, ℕ, ◌+◌, ◌<◌, ◌≤◌, inl, inr, Bool, List, [], ◌∷◌, ◌++◌, length, drop, Option, Some, None, IfSome, refl, sym, ap, ◌∙◌, subst, append_assoc, arith}
 use Rattle.std.specs.Option.{option_map}
 use Rattle.std.proofs.lemmas.List.{append-nil}
 use Rattle.dt_record.specs.declared.records.Record.{Record}
 use Rattle.dt_record.specs.declared.writes.What.{What}
 use Rattle.dt_record.specs.declared.streams.Next.{Next}
-use Rattle.dt_record.specs.declared.streams.Next.TheVariants.{Header, Event, End, Malformed, Limit, ReadFault, OutOfMemory}
+use Rattle.dt_record.specs.declared.streams.Next.TheVariants.{Header, Event, End, Malformed, Limit, ReadFault}
 use Rattle.dt_record.specs.Spelling.{Version, end_bytes}
 use Rattle.dt_record.specs.ProbeFile.{IsNext, header_bytes}
 use Rattle.dt_record.specs.Answers.{Reading, opened, header_fault, AreAnswers, after_record, spelled_next, GoesOn, HasRoom, IsBroken, IsTooMany}
-use Rattle.dt_record.specs.Streams.{TakesAnswer, TakesHeader, TakesRecord}
+use Rattle.dt_record.specs.Streams.{TakesHeader, TakesRecord}
 use Rattle.dt_probe_file.specs.declared.reading.Version.{Version as Form}
 use Rattle.dt_probe_file.specs.declared.reading.Opened.{Opened}
 use Rattle.dt_probe_file.specs.declared.fronts.Front.TheVariants as fronts

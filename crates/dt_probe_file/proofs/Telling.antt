@@ -1,16 +1,12 @@
 -- What is left to answer, from what stands at the front of the bytes.
-use Rattle.std.proofs.Common.{◌≡◌, ℕ, ◌+◌, ◌<◌, ◌≤◌, ◌⊎◌, inl, inr, Bool, List, [], ◌∷◌, ◌++◌, length, drop, Option, Some, None, IfSome, refl, sym, ap, ◌∙◌, subst, append_assoc, arith}
-use Rattle.std.proofs.lemmas.List.{append-nil}
+use Rattle.std.proofs.Common.{◌≡◌, ℕ, ◌≤◌, Bool, List, [], ◌∷◌, ◌++◌, Some, refl}
 use Rattle.dt_record.specs.declared.records.Record.{Record}
 use Rattle.dt_record.specs.declared.writes.What.{What}
-use Rattle.dt_record.specs.declared.streams.Next.{Next}
-use Rattle.dt_record.specs.declared.streams.Next.TheVariants.{Header, Event, End, Malformed, Limit, ReadFault, OutOfMemory}
+use Rattle.dt_record.specs.declared.streams.Next.TheVariants.{Header, Event, End, Malformed, Limit}
 use Rattle.dt_record.specs.Spelling.{Version, end_bytes}
 use Rattle.dt_record.specs.ProbeFile.{header_bytes}
-use Rattle.dt_record.specs.Answers.{Reading, opened, header_fault, after_record, GoesOn, HasRoom, IsBroken, IsMalformed, IsLimit, AreAnswersAfter, AreAnswers}
-use Rattle.dt_record.specs.Streams.{TakesAnswer}
-use Rattle.dt_probe_file.specs.declared.reading.Opened.{Opened}
-use Rattle.dt_probe_file.specs.Told.{answers_of, answers_after, answers_left, ended_by, left_of}
+use Rattle.dt_record.specs.Answers.{Reading, opened, header_fault, after_record, GoesOn, HasRoom, IsMalformed, IsLimit, AreAnswersAfter, AreAnswers}
+use Rattle.dt_probe_file.specs.Told.{answers_of, answers_after}
 use Rattle.dt_probe_file.specs.Exists.{told_of, told_after}
 use Rattle.dt_probe_file.proofs.OneAnswer.{after_is_one, answers_are_one}
 

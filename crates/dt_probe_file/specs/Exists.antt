@@ -1,5 +1,5 @@
 -- Each list of bytes gives some answers.
-use Rattle.std.proofs.Common.{◌≡◌, ℕ, zero, suc, ◌+◌, ◌-◌, ◌^◌, ◌<◌, ◌≤◌, ◌⊎◌, inl, inr, Bool, true, false, IsTrue, List, [], ◌∷◌, ◌++◌, length, take, drop, Option, Some, None, refl, sym, ap, ◌∙◌, subst, arith}
+use Rattle.std.proofs.Common.{◌≡◌, ℕ, zero, suc, ◌+◌, ◌^◌, ◌<◌, ◌≤◌, ◌⊎◌, inl, inr, Bool, true, false, IsTrue, List, [], ◌∷◌, ◌++◌, length, take, drop, Option, Some, None, refl, sym, ap, ◌∙◌, subst, arith}
 use Rattle.std.specs.List.{AllByRecursion}
 use Rattle.std.specs.Cmp.Lexicographic.{bytes_decides}
 use Rattle.std.specs.Str.{bytes_eq}
@@ -15,12 +15,11 @@ use Rattle.dt_record.specs.declared.streams.Next.{Next}
 use Rattle.dt_record.specs.declared.streams.Next.TheVariants.{Header, Event, End, Malformed, Limit}
 use Rattle.dt_record.specs.Lawful.{FitsRetire, FitsList, FitsBody, FitsRecord, is_lawful}
 use Rattle.dt_record.specs.Spelling.{Version, One, Two, record_bytes, wide_bytes, short_bytes, end_bytes}
-use Rattle.dt_record.specs.ProbeFile.{IsNext, header_bytes}
-use Rattle.dt_record.specs.Answers.{Reading, opened, header_fault, after_record, writes_with, spelled_next, GoesOn, HasRoom, IsBroken, IsMalformed, IsTooMany, AreAnswersAfter, AreAnswers}
+use Rattle.dt_record.specs.Answers.{Reading, opened, header_fault, after_record, writes_with, spelled_next, GoesOn, HasRoom, IsTooMany, AreAnswersAfter, AreAnswers}
 use Rattle.dt_record_bytes.proofs.Fields.{length-double}
 use Rattle.dt_probe_file.specs.Fronts.{IsNotBelow, IsRead, LacksRecord}
 use Rattle.dt_probe_file.specs.Proposed.{Proposal, proposed, is_proposed, reads_are_one, read_of_next}
-use Rattle.dt_probe_file.specs.HeaderFields.{IsHeader, header_of}
+use Rattle.dt_probe_file.specs.HeaderFields.{header_of}
 
 -- Facts that can be decided.
 

@@ -1,16 +1,16 @@
 -- The first field of a header that isn't whole or breaks its bound.
 use Rattle.std.proofs.Common.{◌≡◌, ℕ, zero, suc, ◌+◌, ◌-◌, ◌<◌, ◌≤◌, ◌⊎◌, inl, inr, Bool, true, false, not, ◌&&◌, ◌||◌, IsTrue, cond, List, [], ◌∷◌, ◌++◌, length, take, drop, get_or, codes, Option, Some, None, refl, sym, ap, ◌∙◌, subst, arith}
-use Rattle.std.specs.Prelude.{find, ◌==◌, nat_lt, nat_le}
+use Rattle.std.specs.Prelude.{find, ◌==◌, nat_lt}
 use Rattle.std.specs.Option.{option_map}
 use Rattle.std.specs.List.{AllByRecursion}
 use Rattle.std.specs.Str.{bytes_eq}
 use Rattle.std.specs.Cmp.Lexicographic.{bytes_decides}
-use Rattle.std.proofs.lemmas.Bool.{cases_lt, lt-ltb, le-leb, eqb-true}
-use Rattle.std.proofs.lemmas.List.{length-take, length-drop, length-append}
+use Rattle.std.proofs.lemmas.Bool.{cases_lt, lt-ltb}
+use Rattle.std.proofs.lemmas.List.{length-take, length-drop}
 use Rattle.dt_record.specs.Lawful.{Bound, bound}
 use Rattle.dt_record.specs.Spelling.{Version, One, Two, half, word, flag}
 use Rattle.dt_record.specs.ProbeFile.{version_number, header_bytes}
-use Rattle.dt_record.specs.Answers.{starts_with_any, header_bounds, header_fault}
+use Rattle.dt_record.specs.Answers.{starts_with_any, header_fault}
 use Rattle.dt_probe_file.specs.Headers.{header_byte, field_start}
 
 -- The fields of a header, and the first that doesn't hold.

@@ -1,20 +1,19 @@
 -- At most one record stands at the front of bytes, since a reading of them gives it back.
-use Rattle.std.proofs.Common.{◌≡◌, ℕ, zero, suc, ◌+◌, ◌-◌, ◌*◌, ◌/◌, ◌%◌, ◌^◌, ◌<◌, ◌≤◌, Bool, true, false, cond, eqb, ltb, List, [], ◌∷◌, ◌++◌, length, drop, get_or, refl, sym, ap, ◌∙◌, subst, arith, inl, inr}
+use Rattle.std.proofs.Common.{◌≡◌, ℕ, zero, suc, ◌+◌, ◌*◌, ◌/◌, ◌%◌, ◌^◌, ◌<◌, ◌≤◌, Bool, true, false, cond, eqb, ltb, List, [], ◌∷◌, ◌++◌, length, drop, get_or, refl, sym, ap, ◌∙◌, subst, arith}
 use Rattle.std.specs.List.{AllByRecursion, flat_map}
 use Rattle.std.proofs.lemmas.List.{drop_at}
 use Rattle.std.proofs.lemmas.List.Concat.{flat_map-cons}
 use Rattle.std.proofs.lemmas.Bool.{lt-ltb, ltb-true}
 use Rattle.dt_record.specs.declared.records.Record.{Record}
 use Rattle.dt_record.specs.declared.records.Body.TheVariants.{Beat}
-use Rattle.dt_record.specs.Lawful.{FitsRecord, FitsList}
-use Rattle.dt_record.specs.Spelling.{Version, One, Two, wide_bytes, short_bytes, varint, varint_within, present_bytes, presence, presence_bytes}
+use Rattle.dt_record.specs.Spelling.{Version, One, Two, short_bytes, varint, varint_within, present_bytes, presence, presence_bytes}
 use Rattle.dt_record_bytes.specs.declared.decoded.Decoded.{Decoded}
 use Rattle.dt_record_bytes.specs.declared.decoded.Decoded.TheVariants.{Got, Short, Bad}
 use Rattle.dt_record_bytes.specs.declared.short_kinds.Kind.{Kind}
 use Rattle.dt_record_bytes.specs.declared.short_kinds.Kind.TheVariants as kinds
-use Rattle.dt_record_bytes.specs.ShortForms.{kind_number, Form, form_bytes, FitsForm, MayFollow, StartsWith}
+use Rattle.dt_record_bytes.specs.ShortForms.{kind_number, Form, form_bytes, FitsForm, MayFollow}
 use Rattle.dt_record_bytes.specs.ShortReading.{decoded_at}
-use Rattle.dt_record_bytes.proofs.Apart.{Whole, whole, read_fields, fields_again}
+use Rattle.dt_record_bytes.proofs.Apart.{Whole, read_fields, fields_again}
 use Rattle.dt_record_bytes.proofs.Bounds.{wrote_byte_of, wrote_byte_is, same_bytes}
 use Rattle.dt_record_bytes.proofs.ShortGrammar.{IsBytes}
 use Rattle.dt_record_bytes.proofs.ShortVarint.{wider}

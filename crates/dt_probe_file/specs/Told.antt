@@ -1,7 +1,7 @@
 -- Bytes and answers that are left, where the source tells them, and what the answers so far have told
 -- (this project's own).
 use Rattle.std.specs.Option.{option_map_or}
-use Rattle.std.specs.Prelude.{ℕ, ◌≡◌, ◌+◌, ◌==◌, Bool, false, Option, None, Some, IsNone, option_map, List, [], ◌++◌}
+use Rattle.std.specs.Prelude.{ℕ, ◌≡◌, false, Option, None, Some, option_map, List, []}
 use Rattle.dt_record.specs.declared.streams.Next.{Next}
 use Rattle.dt_record.specs.declared.streams.Next.TheVariants.{Header, Event, End, Malformed, Limit, ReadFault, OutOfMemory}
 use Rattle.dt_record.specs.Answers.{Reading, AreAnswers}

@@ -1,4 +1,4 @@
-use Rattle.std.proofs.Common.{subst, arith}
+use Rattle.std.proofs.Common.{subst}
 use Rattle.std.specs.Prelude.{ℕ, take, drop, ◌≡◌}
 use Rattle.dt_record.specs.Spelling.{double}
 use Rattle.dt_probe_file.proofs.Deciding.{end_is, end_isnt}

@@ -1,4 +1,3 @@
-use Rattle.std.proofs.Common.{slice_index}
 use Rattle.dt_probe_file.specs.Fronts.{reading_of}
 use Rattle.dt_probe_file.proofs.Deciding.{wrong_of_got, begun_of_short, wrong_of_bad}
 use Rattle.dt_probe_file.proofs.fronts.record_front.Goals as goal

@@ -1,4 +1,4 @@
-use Rattle.std.proofs.Common.{◌≡◌, ◌<◌, length, get_or, subst, sym, arith}
+use Rattle.std.proofs.Common.{get_or, subst, sym, arith}
 use Rattle.dt_probe_file.proofs.Heading.{FollowsByte, whole_header, begun_header, wrong_header}
 use Rattle.dt_probe_file.specs.declared.reading.Version.{Version}
 use Rattle.dt_probe_file.proofs.headers.heading_of.Goals as goal

@@ -1,4 +1,4 @@
-use Rattle.std.proofs.Common.{◌≡◌, ℕ, ◌+◌, ◌<◌, Bool, true, false, not, List, length, take, drop, Ok, ap, sym, ◌∙◌, subst, arith}
+use Rattle.std.proofs.Common.{◌≡◌, ℕ, ◌+◌, true, false, not, List, take, drop, Ok, ap, ◌∙◌, arith}
 use Rattle.std.specs.Prelude.{◌==◌}
 use Rattle.dt_probe_file.specs.Parts.{part, whole}
 use Rattle.dt_probe_file.proofs.HeldParts.{part_stays, part_grows, whole_grows, some_more, no_more, part_same}

@@ -1,4 +1,3 @@
-use Rattle.std.proofs.Common.{◌≡◌, ◌+◌, ◌-◌, ◌≤◌, sym, ◌∙◌, arith}
 use Rattle.dt_probe_file.proofs.HeldParts.{taken_away}
 use Rattle.dt_probe_file.proofs.holding.Held.take_away.Goals as goal
 
