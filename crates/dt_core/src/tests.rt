@@ -100,8 +100,8 @@ const THREE_HARTS: [Record; 11] = records![
 ];
 
 /// One write in cycle 1 and two in cycle 2, and so three up to the cycles 2, 3 and 4. Hart 0: the
-/// third of five, in cycle 2, fails. Hart 1, whose records of cycle 3 need the writes of hart 0
-/// about its failure: the fifth of six, in cycle 4, fails.
+/// third of five, in cycle 2, fails. Hart 1: the fifth of six, in cycle 4, fails. Its records of cycle
+/// 3 pass by the writes that hart 0 makes at its failure and behind it.
 const FAILURE_IN_THE_MIDDLE: [Record; 11] = records![
     (0, 0, Body::Beat),
     (0, 1, Body::Beat),
