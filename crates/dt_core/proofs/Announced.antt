@@ -1,9 +1,9 @@
-use Rattle.std.proofs.Common.{ℕ, ◌≡◌, ◌≢◌, ◌+◌, ◌-◌, ◌<◌, ◌≤◌, ◌==◌, ◌||◌, ◌⊎◌, Bool, true, false, cond, zero, suc, Option, Some, None, List, [], ◌∷◌, ◌++◌, length, get_or, filter, nat_lt, refl, sym, ap, ◌∙◌, subst, inl, inr, arith, eq-eqb, eqb-true, IsTrue}
-use Rattle.std.specs.List.{filter_map, list_any, cons_option}
+use Rattle.std.proofs.Common.{ℕ, ◌≡◌, ◌+◌, ◌-◌, ◌≤◌, ◌==◌, ◌||◌, ◌⊎◌, Bool, true, false, cond, suc, Option, Some, None, List, [], ◌∷◌, ◌++◌, length, nat_lt, refl, sym, ap, ◌∙◌, subst, inl, inr, arith, eq-eqb, eqb-true}
+use Rattle.std.specs.List.{cons_option}
 use Rattle.std.proofs.lemmas.Bool.Decides.{nat_tests}
 use Rattle.std.specs.Prelude.{option_to_list, slice_index}
 use Rattle.std.proofs.lemmas.Bool.{cases_Bool, cond-true, cond-false, both_ways, ltb-true, lt-ltb}
-use Rattle.std.proofs.lemmas.List.{append_assoc, append-nil, append_cancel_left, length-append}
+use Rattle.std.proofs.lemmas.List.{append_assoc, append-nil, length-append}
 use Rattle.std.proofs.lemmas.List.Elements.{filter-append, filter_map-append}
 use mathlib.Core.List.{IsPrefix}
 use Rattle.dt_record.specs.declared.keys.Key.{Key}
@@ -17,7 +17,7 @@ use Rattle.dt_record.specs.Keys.{records_of}
 use Rattle.dt_record.specs.Writes.{body_write, write_of_record, counted, writes_after}
 use Rattle.dt_core.specs.Notes.{write_in, announced, hart_writes, writes_below}
 use Rattle.dt_core.specs.Marks.{stamp_in, ends, marks_of, mark_of, has_ended}
-use Rattle.dt_core.specs.Sound.{Lists, IsFed, IsAnnounced, IsSound, writes_by}
+use Rattle.dt_core.specs.Sound.{IsAnnounced, writes_by}
 use Rattle.dt_core.proofs.Selection.{filter-pass, filter-drop, filter-narrow, filter-empty}
 
 -- What a front of a history holds of one hart.

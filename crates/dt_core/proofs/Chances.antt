@@ -1,8 +1,6 @@
-use Rattle.std.proofs.Common.{ℕ, ◌≡◌, ◌+◌, ◌-◌, ◌<◌, ◌≤◌, ◌==◌, ◌&&◌, ◌||◌, ◌⊎◌, Bool, true, false, not, cond, min, Option, Some, None, List, [], ◌∷◌, ◌++◌, length, filter, nat_lt, nat_le, zero, suc, refl, sym, ap, ◌∙◌, subst, inl, inr, arith}
-use Rattle.std.specs.List.{slice_get, list_any}
+use Rattle.std.proofs.Common.{ℕ, ◌≡◌, ◌+◌, ◌-◌, ◌<◌, ◌||◌, ◌⊎◌, Bool, true, false, Option, Some, None, List, [], ◌∷◌, ◌++◌, length, nat_lt, nat_le, zero, suc, refl, sym, ap, ◌∙◌, subst, inl, inr, arith}
+use Rattle.std.specs.List.{slice_get}
 use Rattle.std.proofs.lemmas.Bool.{and_parts, cases_Bool, cases_lt, cond-true, cond-false, both_ways, ltb-true, leb-true, lt-ltb}
-use Rattle.std.proofs.lemmas.List.{append-nil}
-use Rattle.dt_record.specs.declared.keys.Key.{Key}
 use Rattle.dt_record.specs.declared.records.Record.{Record}
 use Rattle.dt_record.specs.declared.writes.Write.{Write}
 use Rattle.dt_record.specs.declared.writes.Note.{Note}
@@ -12,7 +10,7 @@ use Rattle.dt_versions.specs.History.{writes_until}
 use Rattle.dt_core.specs.Judgements.{Meaning, AreJudged, failure_from}
 use Rattle.dt_core.specs.Machine.{usable_below, usable, has_failed}
 use Rattle.dt_core.specs.Marks.{mark_of, has_ended, least_with, least_mark, CanJudge, can_judge}
-use Rattle.dt_core.specs.Notes.{announced, writes_below}
+use Rattle.dt_core.specs.Notes.{announced}
 use Rattle.dt_core.proofs.Selection.{filter-narrow}
 
 -- When a record may be judged, and what its judgement leaves.

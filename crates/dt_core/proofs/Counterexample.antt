@@ -1,21 +1,20 @@
-use Rattle.std.proofs.Common.{ℕ, ◌≡◌, ◌<◌, ◌≤◌, ◌⊎◌, true, false, List, [], ◌∷◌, ◌++◌, length, refl, sym, ap, ◌∙◌, subst, inl, inr, arith}
+use Rattle.std.proofs.Common.{ℕ, ◌≡◌, ◌<◌, ◌≤◌, ◌⊎◌, true, false, List, [], ◌∷◌, length, refl, sym, ap, subst, inl, inr, arith}
 use Rattle.std.proofs.Common.{lit<, lit≤}
 use Rattle.std.proofs.lemmas.List.{append-nil}
 use mathlib.Core.List.{IsPrefix}
 use Rattle.dt_record.specs.declared.records.Record.{Record}
 use Rattle.dt_record.specs.declared.records.Retire.{Retire}
 use Rattle.dt_record.specs.declared.records.Body.TheVariants.{Atomic, Beat}
-use Rattle.dt_record.specs.declared.writes.Write.{Write}
 use Rattle.dt_record.specs.declared.writes.Note.{Note}
 use Rattle.dt_record.specs.declared.writes.Note.TheVariants.{Mark, End}
 use Rattle.dt_record.specs.Keys.{records_of}
-use Rattle.dt_record.specs.ProbeFile.{IsNext, AreRecords, no_stamps, stamped}
+use Rattle.dt_record.specs.ProbeFile.{AreRecords, no_stamps}
 use Rattle.dt_record.specs.Writes.{by_key, writes_of}
 use Rattle.dt_versions.specs.History.{writes_until}
 use Rattle.dt_core.specs.Laws.{WritesUntilMarkAreAll, EqualMarkIsEnough}
 use Rattle.dt_core.specs.Marks.{mark_of, has_ended}
 use Rattle.dt_core.specs.Notes.{announced, hart_writes, writes_below}
-use Rattle.dt_core.specs.Sound.{Lists, IsAnnounced, IsSound, writes_by}
+use Rattle.dt_core.specs.Sound.{Lists, IsSound, writes_by}
 use Rattle.dt_core.proofs.Places.{push-split, not_last}
 
 -- One hart has a beat in cycle 5 and then, in the same cycle, a record that writes. Only the beat

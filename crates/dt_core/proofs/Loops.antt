@@ -1,6 +1,6 @@
-use Rattle.std.proofs.Common.{ℕ, ◌≡◌, ◌+◌, ◌-◌, ◌<◌, ◌≤◌, ◌==◌, Bool, true, false, not, cond, Option, Some, None, List, [], ◌∷◌, ◌++◌, length, get_or, take, drop, set, suc, zero, refl, sym, ap, ◌∙◌, subst, inl, inr, arith, min, eq-eqb}
+use Rattle.std.proofs.Common.{ℕ, ◌≡◌, ◌+◌, ◌-◌, ◌<◌, ◌==◌, Bool, not, Option, Some, None, List, [], ◌∷◌, ◌++◌, length, get_or, take, drop, set, suc, zero, refl, sym, ap, ◌∙◌, inl, inr, arith, eq-eqb}
 use Rattle.std.specs.Prelude.{slice_index, option_to_list, if◌then◌else◌}
-use Rattle.std.specs.List.{slice_get, prefix_len, cons_option, filter_map, insert}
+use Rattle.std.specs.List.{slice_get, prefix_len, cons_option, insert}
 use Rattle.std.proofs.lemmas.Bool.{cases_Bool, cond-true, cond-false}
 use Rattle.std.proofs.lemmas.List.{append_assoc, append-nil, length-append}
 use Rattle.std.proofs.lemmas.List.Elements.{filter_map-append}

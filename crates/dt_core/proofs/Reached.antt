@@ -1,5 +1,4 @@
-use Rattle.std.proofs.Common.{ℕ, ◌≡◌, ◌+◌, ◌-◌, ◌<◌, ◌≤◌, ◌==◌, ◌&&◌, ◌^◌, Bool, true, false, cond, Option, Some, None, List, [], ◌∷◌, ◌++◌, length, take, drop, filter, set, nat_lt, zero, suc, refl, sym, ap, ◌∙◌, subst, inl, inr, arith, IsTrue, eq-eqb, eqb-true}
-use Rattle.std.specs.Prelude.{slice_set, replicate}
+use Rattle.std.proofs.Common.{ℕ, ◌≡◌, ◌<◌, ◌≤◌, ◌==◌, ◌&&◌, ◌^◌, Bool, true, false, cond, Option, Some, None, List, [], ◌∷◌, ◌++◌, length, take, nat_lt, zero, suc, refl, sym, ap, ◌∙◌, subst, inl, inr, arith, eqb-true}
 use Rattle.std.specs.List.{slice_get, list_all}
 use Rattle.std.proofs.lemmas.Bool.{and_parts, and_from, cases_Bool}
 use Rattle.std.proofs.lemmas.List.{length-append, length-set, length-replicate, length-take}
@@ -8,16 +7,15 @@ use Rattle.dt_record.specs.declared.records.Record.{Record}
 use Rattle.dt_record.specs.declared.writes.Write.{Write}
 use Rattle.dt_record.specs.declared.writes.Note.{Note}
 use Rattle.dt_record.specs.Keys.{records_of}
-use Rattle.dt_record.specs.Lawful.{is_lawful, IsLawful}
+use Rattle.dt_record.specs.Lawful.{is_lawful}
 use Rattle.dt_record.specs.ProbeFile.{AreRecords, no_stamps, stamped}
-use Rattle.dt_core.specs.declared.entries.Entry.{Entry}
 use Rattle.dt_core.specs.declared.steps.CoreStep.{CoreStep}
 use Rattle.dt_core.specs.declared.steps.CoreStep.TheVariants.{Feed, Take, Announce, Look, Judge}
 use Rattle.dt_core.specs.Judgements.{Meaning, ReadsNoLaterWrites, AreJudged}
-use Rattle.dt_core.specs.Machine.{HartState, CoreState, with_hart, feed_next, told, is_true, announce_of, seen_notes, usable, next_record, judged, judge_next, judge_of, step_state, run_steps, opening_state}
+use Rattle.dt_core.specs.Machine.{HartState, CoreState, with_hart, feed_next, told, is_true, seen_notes, usable, next_record, judged, judge_next, judge_of, step_state, run_steps, opening_state}
 use Rattle.dt_core.specs.Marks.{can_judge}
 use Rattle.dt_core.specs.Notes.{entries_of}
-use Rattle.dt_core.specs.Own.{AreOwn, AreTaken, IsSafe}
+use Rattle.dt_core.specs.Own.{IsSafe}
 use Rattle.dt_core.specs.Runs.{taken_in, queue_in, HoldsAfter, IsReached}
 use Rattle.dt_core.proofs.Places.{all_front}
 use Rattle.dt_core.proofs.Runs.{IsKept, IsKept-opening, IsKept-run, HoldsAfter-kept}

@@ -1,7 +1,6 @@
-use Rattle.std.proofs.Common.{ℕ, ◌≡◌, ◌+◌, ◌-◌, ◌<◌, ◌≤◌, ◌==◌, ◌&&◌, ◌⊎◌, Bool, true, false, Option, Some, None, List, [], ◌∷◌, ◌++◌, length, map, take, drop, filter, nat_le, zero, suc, refl, sym, ap, ◌∙◌, subst, inl, inr, arith, IsTrue, eqb-true}
+use Rattle.std.proofs.Common.{ℕ, ◌≡◌, ◌-◌, ◌==◌, Bool, true, false, Option, Some, None, List, [], ◌∷◌, ◌++◌, length, map, take, drop, refl, sym, ap, ◌∙◌, subst, arith, IsTrue}
 use Rattle.std.specs.Prelude.{option_map, option_to_list}
 use Rattle.std.specs.List.{slice_get, list_all}
-use Rattle.std.proofs.lemmas.Bool.{and_parts, cases_Bool, both_ways}
 use Rattle.std.proofs.lemmas.List.{append_assoc, append-nil, take_all, take-append-drop}
 use Rattle.std.proofs.lemmas.List.Elements.{filter-append}
 use mathlib.Core.List.{IsPrefix}
@@ -9,13 +8,13 @@ use Rattle.dt_record.specs.declared.keys.Key.{Key}
 use Rattle.dt_record.specs.declared.records.Record.{Record}
 use Rattle.dt_record.specs.declared.writes.Write.{Write}
 use Rattle.dt_record.specs.declared.writes.Note.{Note}
-use Rattle.dt_record.specs.declared.writes.Note.TheVariants.{Wrote, Mark, End, Cut, Failure}
+use Rattle.dt_record.specs.declared.writes.Note.TheVariants.{Wrote, Mark, End}
 use Rattle.dt_record.specs.Keys.{records_of}
 use Rattle.dt_record.specs.ProbeFile.{AreRecords, no_stamps}
 use Rattle.dt_record.specs.Writes.{no_records}
 use Rattle.dt_core.specs.Notes.{announced, hart_writes, writes_below}
-use Rattle.dt_core.specs.Machine.{last_mark, reach_of, new_writes}
-use Rattle.dt_core.specs.Sound.{IsAnnounced, writes_by}
+use Rattle.dt_core.specs.Machine.{reach_of, new_writes}
+use Rattle.dt_core.specs.Sound.{writes_by}
 use Rattle.dt_core.proofs.Places.{all_filter, all_front, all_drop, drop-front}
 use Rattle.dt_core.proofs.Stamps.{Rises, Rises-records_of, later_stamps, same_below, own_writes}
 use Rattle.dt_core.proofs.Telling.{IsTold, IsTold-push, IsTold-writes, MayFollow}

@@ -1,14 +1,13 @@
-use Rattle.std.proofs.Common.{ℕ, ◌≡◌, ◌+◌, ◌-◌, ◌<◌, ◌≤◌, ◌==◌, ◌&&◌, ◌⊎◌, Bool, true, false, cond, Option, Some, None, List, [], ◌∷◌, ◌++◌, length, map, take, drop, filter, set, nat_lt, nat_le, zero, suc, refl, sym, ap, ◌∙◌, subst, inl, inr, arith, IsTrue, eq-eqb, eqb-true}
-use Rattle.std.specs.Prelude.{slice_index, slice_set, replicate, option_map, ◌%◌}
+use Rattle.std.proofs.Common.{ℕ, ◌≡◌, ◌+◌, ◌-◌, ◌<◌, ◌≤◌, ◌==◌, ◌&&◌, ◌⊎◌, Bool, true, false, cond, Option, Some, None, List, [], ◌∷◌, ◌++◌, length, take, drop, nat_lt, zero, suc, refl, sym, ap, ◌∙◌, subst, inl, inr, arith, IsTrue, eq-eqb, eqb-true}
+use Rattle.std.specs.Prelude.{slice_index, slice_set, option_map, ◌%◌}
 use Rattle.std.specs.List.{slice_get, list_all}
-use Rattle.std.proofs.lemmas.Bool.{and_parts, cases_Bool, cases_lt, both_ways, cond-true, cond-false}
+use Rattle.std.proofs.lemmas.Bool.{and_parts, cases_Bool, cases_lt, cond-true, cond-false}
 use Rattle.std.proofs.lemmas.List.{append_assoc, append-nil, take_all, take-append-drop, map-append, length-append, length-set}
 use Rattle.std.proofs.lemmas.List.Elements.{filter-append}
 use Rattle.std.proofs.lemmas.Bool.Decides.{eqb_tells}
 use mathlib.Core.List.{IsPrefix}
 use Rattle.dt_record.specs.declared.keys.Key.{Key}
 use Rattle.dt_record.specs.declared.records.Record.{Record}
-use Rattle.dt_record.specs.declared.writes.Write.{Write}
 use Rattle.dt_record.specs.declared.writes.Note.{Note}
 use Rattle.dt_record.specs.declared.writes.Note.TheVariants.{Wrote, Mark, End, Cut, Failure}
 use Rattle.dt_record.specs.Keys.{key_of, records_of}
@@ -21,12 +20,12 @@ use Rattle.dt_core.specs.declared.steps.CoreStep.TheVariants.{Feed, Take, Announ
 use Rattle.dt_core.specs.Judgements.{Meaning, ReadsNoLaterWrites, AreJudged, failure_of}
 use Rattle.dt_core.specs.Machine.{HartState, CoreState, with_hart, queued, feed_next, take_first, take_of, is_mine, news_of, told, has_failed, is_key, last_judged, ends_with, is_true, announce_of, seen_notes, usable, next_record, judged, judge_next, judge_of, step_state, run_steps, new_hart, new_harts, opening_state}
 use Rattle.dt_core.specs.Marks.{CanJudge, can_judge}
-use Rattle.dt_core.specs.Notes.{announced, notes_in, entries_of}
+use Rattle.dt_core.specs.Notes.{notes_in, entries_of}
 use Rattle.dt_core.specs.Runs.{taken_in, queue_in, lists_of, HoldsAfter, EveryRunHolds}
-use Rattle.dt_core.specs.Sound.{IsAnnounced, IsSound, writes_by}
+use Rattle.dt_core.specs.Sound.{IsSound, writes_by}
 use Rattle.dt_core.proofs.Announced.{writes_after-front}
 use Rattle.dt_core.proofs.Chances.{CanJudge-test, usable-until, AreJudged-more, AreJudged-next, failure_from-last}
-use Rattle.dt_core.proofs.Places.{slice_get-set_same, slice_get-set_other, slice_get-push, slice_get-front, slice_get-inside, take-next, past_end, within_get, not_last}
+use Rattle.dt_core.proofs.Places.{slice_get-set_same, slice_get-set_other, slice_get-push, slice_get-front, take-next, past_end, within_get, not_last}
 use Rattle.dt_core.proofs.Reaches.{IsKnown, rest_of, IsTold-news}
 use Rattle.dt_core.proofs.Selection.{filter-pass, filter-drop}
 use Rattle.dt_core.proofs.Telling.{IsTold, IsTold-push, MayFollow}

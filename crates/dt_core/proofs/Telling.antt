@@ -1,6 +1,6 @@
-use Rattle.std.proofs.Common.{ℕ, ◌≡◌, ◌+◌, ◌-◌, ◌<◌, ◌≤◌, ◌==◌, ◌⊎◌, Bool, true, false, Option, Some, None, List, [], ◌∷◌, ◌++◌, length, map, drop, filter, nat_lt, refl, sym, ap, ◌∙◌, subst, inl, inr, arith, eq-eqb, eqb-true}
-use Rattle.std.specs.List.{slice_get, list_all}
-use Rattle.std.proofs.lemmas.Bool.{and_parts, and_from, cases_Bool, both_ways}
+use Rattle.std.proofs.Common.{ℕ, ◌≡◌, ◌==◌, true, List, [], ◌∷◌, ◌++◌, map, sym, ap, ◌∙◌, subst, inl, inr, eqb-true}
+use Rattle.std.specs.List.{list_all}
+use Rattle.std.proofs.lemmas.Bool.{and_parts, cases_Bool}
 use Rattle.std.proofs.lemmas.List.{append_assoc, append-nil}
 use Rattle.std.proofs.lemmas.List.Elements.{filter-append, filter_map-append}
 use mathlib.Core.List.{IsPrefix}
@@ -10,11 +10,10 @@ use Rattle.dt_record.specs.declared.writes.Write.{Write}
 use Rattle.dt_record.specs.declared.writes.Note.{Note}
 use Rattle.dt_record.specs.declared.writes.Note.TheVariants.{Wrote, Mark, End, Cut, Failure}
 use Rattle.dt_record.specs.Keys.{records_of}
-use Rattle.dt_record.specs.Writes.{writes_after}
 use Rattle.dt_core.specs.Notes.{write_in, announced, hart_writes, writes_below}
 use Rattle.dt_core.specs.Sound.{IsAnnounced, writes_by}
 use Rattle.dt_core.proofs.Selection.{filter-pass, filter-drop}
-use Rattle.dt_core.proofs.Places.{StoodBefore, push-split, drop-front}
+use Rattle.dt_core.proofs.Places.{push-split}
 
 -- What a note has to be so that a history may go on with it.
 

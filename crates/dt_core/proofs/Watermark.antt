@@ -1,7 +1,7 @@
-use Rattle.std.proofs.Common.{ℕ, ◌≡◌, ◌+◌, ◌<◌, ◌≤◌, ◌==◌, ◌⊎◌, Bool, true, false, cond, min, zero, suc, Option, Some, None, List, [], ◌∷◌, ◌++◌, filter, nat_lt, nat_le, refl, sym, ap, ◌∙◌, subst, inl, inr, arith, eqb-true}
+use Rattle.std.proofs.Common.{ℕ, ◌≡◌, ◌+◌, ◌<◌, ◌≤◌, ◌==◌, ◌⊎◌, Bool, true, min, zero, suc, Option, Some, None, List, [], ◌∷◌, ◌++◌, nat_lt, nat_le, refl, sym, ap, ◌∙◌, subst, inl, inr, arith, eqb-true}
 use Rattle.std.proofs.lemmas.Bool.{cases_Bool, cases_lt, cond-true, cond-false}
 use Rattle.std.proofs.lemmas.Bool.Decides.{nat_tests}
-use Rattle.std.proofs.lemmas.List.{append_assoc, append-nil}
+use Rattle.std.proofs.lemmas.List.{append_assoc}
 use Rattle.std.proofs.lemmas.List.Elements.{filter-append, filter_agree}
 use mathlib.Core.List.{IsPrefix}
 use Rattle.dt_record.specs.declared.records.Record.{Record}
@@ -12,7 +12,7 @@ use Rattle.dt_record.specs.ProbeFile.{AreRecords, no_stamps, stamped}
 use Rattle.dt_record.specs.Writes.{no_records, writes_after, by_key, writes_of}
 use Rattle.dt_versions.specs.History.{writes_until}
 use Rattle.dt_core.specs.Notes.{announced, hart_writes, writes_below}
-use Rattle.dt_core.specs.Marks.{mark_of, has_ended, least_with, least_mark, CanJudge}
+use Rattle.dt_core.specs.Marks.{mark_of, has_ended, least_with, least_mark}
 use Rattle.dt_core.specs.Sound.{Lists, IsSound, writes_by}
 use Rattle.dt_core.specs.Laws.{HoldsBelow, WritesBelowMarkAreAll, WritesUntilJudgedAreAll}
 use Rattle.dt_core.proofs.Selection.{filter-drop, filter-both}

@@ -10,7 +10,7 @@ use Rattle.dt_record.specs.Keys.{records_of}
 use Rattle.dt_record.specs.ProbeFile.{AreRecords, no_stamps}
 use Rattle.dt_record.specs.Writes.{writes_of}
 use Rattle.dt_core.specs.declared.steps.CoreStep.{CoreStep}
-use Rattle.dt_core.specs.Judgements.{Meaning, ReadsNoLaterWrites, AreJudged, failure_of}
+use Rattle.dt_core.specs.Judgements.{Meaning, AreJudged, failure_of}
 use Rattle.dt_core.specs.Laws.{HoldsBelow}
 use Rattle.dt_core.specs.Machine.{HartState, CoreState, run_steps, opening_state}
 use Rattle.dt_core.specs.Marks.{least_mark}

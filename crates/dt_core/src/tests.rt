@@ -1,15 +1,14 @@
-ghost use Rattle.std.specs.Prelude.{◌≡◌, ◌==◌, ◌≤◌, length, filter, IfOk};
+ghost use Rattle.std.specs.Prelude.{◌≡◌, ◌==◌, length};
 ghost use Rattle.std.proofs.Common.{ap, refl};
-ghost use Rattle.dt_record.specs.ProbeFile.{AreRecords, no_stamps};
-ghost use Rattle.dt_record.specs.Writes.{writes_memory};
 ghost use Rattle.dt_versions.specs.History.{writes_until};
 
 use crate::{CoreStep, Judgement, Notes, World, step};
-use dt_record::{Body, Record, Retire, Write};
+use dt_record::{Body, Key, Note, Record, Retire, Write};
 use std::alloc::{AllocError, Global};
 use std::test::Fail;
 
-/// Allows a record where the number of writes up to its cycle is the number of the cycle.
+/// Allows a record where the number of writes up to its cycle is the number of the cycle: the records
+/// of cycle 3 pass where the file has three writes in the cycles 0 to 3.
 #[derive(Clone, Copy, Drop)]
 struct Counted {
     hart: u8,
@@ -51,92 +50,130 @@ const SWAP: Body = Body::Atomic {
     new: 7,
 };
 
-const TWO_BEATS: [Record; 2] = [
-    Record {
-        stamp: 5,
-        hart: 0,
-        body: Body::Beat,
-    },
-    Record {
-        stamp: 5,
-        hart: 1,
-        body: Body::Beat,
-    },
-];
-
-/// One write in each of the cycles 1 to 4, so that only the records of cycle 5 are not allowed.
-const FILE: [Record; 11] = [
-    Record {
-        stamp: 0,
-        hart: 0,
-        body: Body::Beat,
-    },
-    Record {
-        stamp: 1,
-        hart: 1,
-        body: Body::Beat,
-    },
-    Record {
-        stamp: 1,
-        hart: 0,
-        body: SWAP,
-    },
-    Record {
-        stamp: 2,
-        hart: 1,
-        body: SWAP,
-    },
-    Record {
-        stamp: 2,
-        hart: 0,
-        body: Body::Beat,
-    },
-    Record {
-        stamp: 3,
-        hart: 0,
-        body: SWAP,
-    },
-    Record {
-        stamp: 3,
-        hart: 1,
-        body: Body::Beat,
-    },
-    Record {
-        stamp: 4,
-        hart: 1,
-        body: SWAP,
-    },
-    Record {
-        stamp: 5,
-        hart: 1,
-        body: Body::Beat,
-    },
-    Record {
-        stamp: 4,
-        hart: 0,
-        body: Body::Beat,
-    },
-    Record {
-        stamp: 5,
-        hart: 1,
-        body: Body::Beat,
-    },
-];
-
-fn two_beats(alloc: Global) -> Result<Vec<Record>, AllocError>
-    ensures each { IfOk result (λ file. AreRecords 2 no_stamps file.items) }
-    ensures few { IfOk result (λ file. length file.items ≤ 4194304) }
-    ensures few_writes { IfOk result (λ file. length (filter writes_memory file.items) ≤ 1048576) }
-{
-    Vec::from_slice(alloc, &TWO_BEATS)
+/// Records by stamp, hart and body.
+macro_rules! records {
+    ($(($stamp:literal, $hart:literal, $body:expr)),+) => {
+        [$(Record { stamp: $stamp, hart: $hart, body: $body }),+]
+    };
 }
 
-fn eleven_records(alloc: Global) -> Result<Vec<Record>, AllocError>
-    ensures each { IfOk result (λ file. AreRecords 2 no_stamps file.items) }
-    ensures few { IfOk result (λ file. length file.items ≤ 4194304) }
-    ensures few_writes { IfOk result (λ file. length (filter writes_memory file.items) ≤ 1048576) }
-{
-    Vec::from_slice(alloc, &FILE)
+const TWO_BEATS: [Record; 2] = records![(5, 0, Body::Beat), (5, 1, Body::Beat)];
+
+/// Two writes up to cycle 3. Hart 0: the record of cycle 3 is the fifth of six, and it fails.
+const ONE_HART: [Record; 6] = records![
+    (0, 0, Body::Beat),
+    (1, 0, SWAP),
+    (2, 0, SWAP),
+    (2, 0, Body::Beat),
+    (3, 0, Body::Beat),
+    (4, 0, SWAP)
+];
+
+/// Three writes up to cycle 5, one in each of the cycles 1 to 3. Hart 0: the fifth of six, in cycle
+/// 5, fails. Hart 1: all three pass.
+const IDLE_WORKER: [Record; 9] = records![
+    (1, 1, SWAP),
+    (0, 0, Body::Beat),
+    (1, 0, Body::Beat),
+    (2, 1, Body::Beat),
+    (2, 0, SWAP),
+    (3, 0, Body::Beat),
+    (3, 1, SWAP),
+    (5, 0, Body::Beat),
+    (5, 0, Body::Beat)
+];
+
+/// One write of each hart, in the cycles 1 to 3, and so three up to the cycles 4 and 5. Hart 0: the
+/// third of four, in cycle 4, fails. Hart 1: both pass. Hart 2: the fourth of five, in cycle 5, fails.
+const THREE_HARTS: [Record; 11] = records![
+    (0, 2, Body::Beat),
+    (1, 0, SWAP),
+    (1, 1, Body::Beat),
+    (2, 2, SWAP),
+    (2, 0, Body::Beat),
+    (3, 1, SWAP),
+    (3, 2, Body::Beat),
+    (4, 0, Body::Beat),
+    (4, 0, Body::Beat),
+    (5, 2, Body::Beat),
+    (5, 2, Body::Beat)
+];
+
+/// One write in cycle 1 and two in cycle 2, and so three up to the cycles 2, 3 and 4. Hart 0: the
+/// third of five, in cycle 2, fails. Hart 1: the fifth of six, in cycle 4, fails. Its records of cycle
+/// 3 pass by the writes that hart 0 makes at its failure and behind it.
+const FAILURE_IN_THE_MIDDLE: [Record; 11] = records![
+    (0, 0, Body::Beat),
+    (0, 1, Body::Beat),
+    (1, 0, SWAP),
+    (1, 1, Body::Beat),
+    (2, 0, SWAP),
+    (2, 0, SWAP),
+    (3, 1, Body::Beat),
+    (3, 0, Body::Beat),
+    (3, 1, Body::Beat),
+    (4, 1, Body::Beat),
+    (4, 1, Body::Beat)
+];
+
+/// One write in each of the cycles 1 to 4. Hart 0: all five pass. Hart 1: the fifth of six, in
+/// cycle 5, fails.
+const WRITES_OF_BOTH: [Record; 11] = records![
+    (0, 0, Body::Beat),
+    (1, 1, Body::Beat),
+    (1, 0, SWAP),
+    (2, 1, SWAP),
+    (2, 0, Body::Beat),
+    (3, 0, SWAP),
+    (3, 1, Body::Beat),
+    (4, 1, SWAP),
+    (5, 1, Body::Beat),
+    (4, 0, Body::Beat),
+    (5, 1, Body::Beat)
+];
+
+/// No write, so that cycle 0 alone passes.
+const NO_WRITES: [Record; 5] = records![
+    (0, 0, Body::Beat),
+    (1, 0, Body::Beat),
+    (2, 0, Body::Beat),
+    (0, 1, Body::Beat),
+    (3, 1, Body::Beat)
+];
+
+#[derive(Clone, Copy, Debug)]
+enum Run {
+    TwoBeats,
+    OneHart,
+    IdleWorker,
+    ThreeHarts,
+    FailureInTheMiddle,
+    WritesOfBoth,
+    NoWrites,
+}
+
+/// The runs of the schedules, and how many records of each hart are judged in the end: up to its
+/// failure, and with it.
+const JUDGED: [(Run, [Option<u32>; 3]); 5] = [
+    (Run::OneHart, [Some(5), None, None]),
+    (Run::IdleWorker, [Some(5), Some(3), None]),
+    (Run::ThreeHarts, [Some(3), Some(2), Some(4)]),
+    (Run::FailureInTheMiddle, [Some(3), Some(5), None]),
+    (Run::WritesOfBoth, [Some(5), Some(5), None]),
+];
+
+fn start(alloc: Global, run: Run) -> Result<World<Counted>, AllocError> {
+    match run {
+        Run::TwoBeats => World::start(alloc, 2, 2, Vec::from_slice(alloc, &TWO_BEATS)?),
+        Run::OneHart => World::start(alloc, 1, 1, Vec::from_slice(alloc, &ONE_HART)?),
+        Run::IdleWorker => World::start(alloc, 2, 3, Vec::from_slice(alloc, &IDLE_WORKER)?),
+        Run::ThreeHarts => World::start(alloc, 3, 2, Vec::from_slice(alloc, &THREE_HARTS)?),
+        Run::FailureInTheMiddle => {
+            World::start(alloc, 2, 2, Vec::from_slice(alloc, &FAILURE_IN_THE_MIDDLE)?)
+        }
+        Run::WritesOfBoth => World::start(alloc, 2, 2, Vec::from_slice(alloc, &WRITES_OF_BOTH)?),
+        Run::NoWrites => World::start(alloc, 2, 2, Vec::from_slice(alloc, &NO_WRITES)?),
+    }
 }
 
 fn announce(alloc: Global, worker: u8) -> CoreStep {
@@ -146,7 +183,14 @@ fn announce(alloc: Global, worker: u8) -> CoreStep {
     }
 }
 
-/// How many records of the hart were judged, in a world of two harts.
+fn announce_with(alloc: Global, worker: u8, notes: &[Note]) -> Result<CoreStep, AllocError> {
+    Ok(CoreStep::Announce {
+        worker,
+        extra: Notes::of(Vec::from_slice(alloc, notes)?),
+    })
+}
+
+/// How many records of the hart were judged, where there is such a hart.
 fn judged(world: &World<Counted>, hart: u8) -> Option<u32> {
     if hart < world.harts() {
         Some(world.judged(hart))
@@ -155,10 +199,22 @@ fn judged(world: &World<Counted>, hart: u8) -> Option<u32> {
     }
 }
 
+fn counts(world: &World<Counted>) -> [Option<u32>; 3] {
+    [judged(world, 0), judged(world, 1), judged(world, 2)]
+}
+
+fn total(world: &World<Counted>) -> u64 {
+    let mut sum: u64 = 0;
+    for count in counts(world) {
+        sum = sum.saturating_add(u64::from(count.unwrap_or(0)));
+    }
+    sum
+}
+
 #[test]
 fn two_beats_of_one_cycle_wait_for_the_end(rt: HostRuntime) -> Result<(), Fail> {
     let alloc = rt.alloc();
-    let mut world: World<Counted> = World::start(alloc, 2, 2, two_beats(alloc)?)?;
+    let mut world = start(alloc, Run::TwoBeats)?;
     step(&mut world, CoreStep::Feed)?;
     step(&mut world, CoreStep::Feed)?;
     step(&mut world, CoreStep::Take { hart: 0 })?;
@@ -167,14 +223,70 @@ fn two_beats_of_one_cycle_wait_for_the_end(rt: HostRuntime) -> Result<(), Fail> 
     step(&mut world, announce(alloc, 1))?;
     step(&mut world, CoreStep::Look { worker: 0 })?;
     step(&mut world, CoreStep::Judge { hart: 0 })?;
-    assert_eq!(rt; judged(&world, 0), Some(0));
+    assert_eq!(rt; counts(&world), [Some(0), Some(0), None]);
     step(&mut world, CoreStep::Feed)?;
     step(&mut world, announce(alloc, 0))?;
     step(&mut world, announce(alloc, 1))?;
     step(&mut world, CoreStep::Look { worker: 0 })?;
     step(&mut world, CoreStep::Judge { hart: 0 })?;
-    assert_eq!(rt; judged(&world, 0), Some(1));
-    assert_eq!(rt; judged(&world, 1), Some(0));
+    assert_eq!(rt; counts(&world), [Some(1), Some(0), None]);
+    Ok(())
+}
+
+/// The worker looks, and its hart's next record is judged where it may be.
+fn look_and_judge(world: &mut World<Counted>, worker: u8, hart: u8) -> Result<(), AllocError> {
+    step(world, CoreStep::Look { worker })?;
+    step(world, CoreStep::Judge { hart })
+}
+
+const fn failure_at(stamp: u64, seq: u32) -> Note {
+    Note::Failure {
+        key: Key {
+            stamp,
+            hart: 0,
+            seq,
+        },
+    }
+}
+
+/// Hart 0 fails at its second record, in cycle 1. The last record of hart 1 waits for the end of
+/// hart 0, which worker 0 tells only with notes that are true: no cut behind the failure, no failure
+/// at another record, no note of the other worker's hart, and no mark.
+#[test]
+fn only_true_cuts_and_failures_are_announced(rt: HostRuntime) -> Result<(), Fail> {
+    let alloc = rt.alloc();
+    let mut world = start(alloc, Run::NoWrites)?;
+    for _ in 0..5 {
+        step(&mut world, CoreStep::Feed)?;
+    }
+    for _ in 0..3 {
+        step(&mut world, CoreStep::Take { hart: 0 })?;
+        step(&mut world, CoreStep::Take { hart: 1 })?;
+    }
+    step(&mut world, announce(alloc, 0))?;
+    step(&mut world, announce(alloc, 1))?;
+    look_and_judge(&mut world, 0, 0)?;
+    look_and_judge(&mut world, 0, 0)?;
+    look_and_judge(&mut world, 1, 1)?;
+    step(&mut world, CoreStep::Feed)?;
+    step(&mut world, announce(alloc, 1))?;
+    for untrue in [
+        Note::Cut { hart: 0, cut: 2 },
+        failure_at(0, 0),
+        failure_at(1, 0),
+        failure_at(2, 2),
+        Note::Cut { hart: 1, cut: 0 },
+        Note::Mark { hart: 0, stamp: 9 },
+    ] {
+        let notes = [Note::Cut { hart: 0, cut: 1 }, untrue];
+        step(&mut world, announce_with(alloc, 0, &notes)?)?;
+        look_and_judge(&mut world, 1, 1)?;
+        assert_eq!(rt; counts(&world), [Some(2), Some(1), None]);
+    }
+    let notes = [Note::Cut { hart: 0, cut: 1 }, failure_at(1, 1)];
+    step(&mut world, announce_with(alloc, 0, &notes)?)?;
+    look_and_judge(&mut world, 1, 1)?;
+    assert_eq!(rt; counts(&world), [Some(2), Some(2), None]);
     Ok(())
 }
 
@@ -185,20 +297,28 @@ fn next_random(seed: &mut u64) -> u64 {
     *seed >> 33
 }
 
-/// A step of a run of two harts and two workers.
-fn random_step(alloc: Global, seed: &mut u64) -> CoreStep {
-    let which = if next_random(seed).is_multiple_of(2) {
-        0
-    } else {
-        1
-    };
-    match next_random(seed) % 5 {
+/// A hart or a worker, which a run may have or not.
+fn random_number(seed: &mut u64) -> u8 {
+    match next_random(seed) % 3 {
+        0 => 0,
+        1 => 1,
+        _ => 2,
+    }
+}
+
+fn random_step(alloc: Global, seed: &mut u64) -> Result<CoreStep, AllocError> {
+    let which = random_number(seed);
+    Ok(match next_random(seed) % 6 {
         0 => CoreStep::Feed,
         1 => CoreStep::Take { hart: which },
         2 => announce(alloc, which),
-        3 => CoreStep::Look { worker: which },
+        3 => {
+            let cut = next_random(seed) % 6;
+            announce_with(alloc, which, &[Note::Cut { hart: which, cut }])?
+        }
+        4 => CoreStep::Look { worker: which },
         _ => CoreStep::Judge { hart: which },
-    }
+    })
 }
 
 /// Feeds, takes, announces and judges all that is left.
@@ -207,38 +327,43 @@ fn finish(alloc: Global, world: &mut World<Counted>) -> Result<(), AllocError> {
         step(world, CoreStep::Feed)?;
     }
     for _ in 0..6 {
-        step(world, CoreStep::Take { hart: 0 })?;
-        step(world, CoreStep::Take { hart: 1 })?;
+        for hart in 0..3 {
+            step(world, CoreStep::Take { hart })?;
+        }
     }
-    for worker in 0..2 {
+    for worker in 0..3 {
         step(world, announce(alloc, worker))?;
     }
-    for worker in 0..2 {
+    for worker in 0..3 {
         step(world, CoreStep::Look { worker })?;
     }
     for _ in 0..6 {
-        step(world, CoreStep::Judge { hart: 0 })?;
-        step(world, CoreStep::Judge { hart: 1 })?;
+        for hart in 0..3 {
+            step(world, CoreStep::Judge { hart })?;
+        }
     }
     Ok(())
 }
 
-/// Hart 0 has five records, all allowed; the fifth of hart 1 is not allowed, and its sixth is not judged.
+/// Whatever the schedule, the same records are judged, and with the same outcomes: behind a failure
+/// none is. Some are judged before the end.
 #[test]
 fn every_schedule_judges_alike(rt: HostRuntime) -> Result<(), Fail> {
     let alloc = rt.alloc();
     let mut seed = 20_261_201;
-    let mut early: u64 = 0;
-    for _ in 0..3000 {
-        let mut world: World<Counted> = World::start(alloc, 2, 2, eleven_records(alloc)?)?;
-        for _ in 0..80 {
-            step(&mut world, random_step(alloc, &mut seed))?;
+    for (run, want) in JUDGED {
+        let mut early: u64 = 0;
+        for _ in 0..1000 {
+            let mut world = start(alloc, run)?;
+            for _ in 0..90 {
+                let next = random_step(alloc, &mut seed)?;
+                step(&mut world, next)?;
+            }
+            early = early.saturating_add(total(&world));
+            finish(alloc, &mut world)?;
+            assert_eq!(rt; counts(&world), want, "{run:?}");
         }
-        early = early.saturating_add(u64::from(judged(&world, 0).unwrap_or(0)));
-        finish(alloc, &mut world)?;
-        assert_eq!(rt; judged(&world, 0), Some(5));
-        assert_eq!(rt; judged(&world, 1), Some(5));
+        assert!(rt; early > 500, "{run:?}: {early}");
     }
-    assert!(rt; early > 3000);
     Ok(())
 }

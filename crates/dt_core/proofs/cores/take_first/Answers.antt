@@ -1,4 +1,4 @@
-use Rattle.std.proofs.Common.{◌≡◌, Some, get_or, sym, ap, ◌∙◌, arith}
+use Rattle.std.proofs.Common.{get_or, sym, ap, ◌∙◌, arith}
 use Rattle.std.specs.List.{slice_get}
 use Rattle.dt_core.proofs.Loops.{slice_get-at, taken-step}
 use Rattle.dt_core.proofs.cores.take_first.Goals as goal

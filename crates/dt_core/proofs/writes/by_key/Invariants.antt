@@ -1,4 +1,4 @@
-use Rattle.std.proofs.Common.{◌≡◌, ◌≤◌, drop, length}
+use Rattle.std.proofs.Common.{◌≡◌, drop}
 use Rattle.dt_record.specs.Writes.{by_key}
 use Rattle.dt_core.proofs.writes.by_key.Given as goal
 
