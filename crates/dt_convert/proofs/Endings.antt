@@ -11,7 +11,7 @@ use Rattle.dt_convert.specs.Convert.{file_with, ending_bytes, converted, MayConv
 use Rattle.dt_convert.specs.Reading.{IsFileOf, StopsAt}
 
 -- what all answers have where they end so
-whole_answer : (version : Version) (answers : List Next) (last : Next) → end_of answers ≡ Some last
+pub whole_answer : (version : Version) (answers : List Next) (last : Next) → end_of answers ≡ Some last
     → (converted version answers ≡ ending_bytes (file_with version answers) last) × (dump_status answers ≡ last_status last)
 whole_answer version answers last ending = (
   ap (λ (o : Option Next). option_map_or (ending_bytes (file_with version answers)) o []) ending,

@@ -3,10 +3,12 @@
 #![tactic(auto)]
 
 mod converting;
+mod laws;
 mod pieces;
 #[cfg(test)]
 mod tests;
 mod versions;
 
 pub use converting::convert_probes;
+pub use laws::{converted_is_a_file, converts_back};
 pub use versions::FileVersion;

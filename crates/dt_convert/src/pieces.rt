@@ -17,7 +17,22 @@ fn header_of(version: FileVersion, harts: u8, wide: bool) -> [u8; 16]
 {
     let number = number_of(version);
     [
-        b'S', b'M', b'P', b'D', b'I', b'F', b'F', 0, number, 0, harts, u8::from(wide), 0, 0, 0, 0,
+        b'S',
+        b'M',
+        b'P',
+        b'D',
+        b'I',
+        b'F',
+        b'F',
+        0,
+        number,
+        0,
+        harts,
+        u8::from(wide),
+        0,
+        0,
+        0,
+        0,
     ]
 }
 
