@@ -1,5 +1,5 @@
 -- A file between two answers of its stream.
-use Rattle.std.proofs.Common.{◌≡◌, ◌≢◌, ◌∙◌, ◌<◌, ◌≤◌, ◌==◌, ◌⊎◌, ℕ, Bool, true, false, cond, List, [], ◌∷◌, ◌++◌, Option, Some, None, IsSome, IfSome, length, slice_index, slice_set, refl, sym, ap, inl, inr, subst, append_assoc, arith}
+use Rattle.std.proofs.Common.{◌≡◌, ◌≢◌, ◌∙◌, ◌<◌, ◌≤◌, ◌==◌, ◌⊎◌, ℕ, Bool, true, cond, List, [], ◌∷◌, ◌++◌, Option, Some, None, IsSome, IfSome, length, slice_index, slice_set, refl, sym, ap, inl, inr, subst, append_assoc, arith}
 use Rattle.std.proofs.lemmas.Bool.{cases_eq, ne_eqb}
 use Rattle.std.proofs.lemmas.Bool.Decides.{nat_tests}
 use Rattle.std.proofs.lemmas.List.{append-nil, length-set, get_or-set_same, get_or-set_other}
@@ -10,8 +10,8 @@ use Rattle.dt_record.specs.Spelling.{Version, record_bytes, end_bytes}
 use Rattle.dt_record.specs.Lawful.{IsLawful}
 use Rattle.dt_record.specs.ProbeFile.{header_bytes, records_bytes, no_stamps, stamped, IsNext}
 use Rattle.dt_record.specs.Streams.{Progress, IsFresh, TakesHeader, TakesRecord, TakesAnswer}
-use Rattle.dt_dump.specs.Dump.{records_in, end_of}
-use Rattle.dt_dump.proofs.Underway.{HasCome, HasTold, IsLast, told_map, some_and, come_first, no_harts, tells_first, come_header, tells_header, come_record, tells_record, came_last}
+use Rattle.dt_dump.specs.Dump.{records_in}
+use Rattle.dt_dump.proofs.Underway.{HasCome, HasTold, told_map, some_and, come_first, no_harts, tells_first, come_header, tells_header, come_record, tells_record, came_last}
 use Rattle.dt_convert.specs.Convert.{file_bytes, file_with}
 use Rattle.dt_convert.specs.Reading.{IsFileOf, StopsAt}
 

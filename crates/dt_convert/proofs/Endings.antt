@@ -5,7 +5,7 @@ use Rattle.dt_source.specs.Known.{Appends}
 use Rattle.dt_record.specs.declared.streams.Next.{Next}
 use Rattle.dt_record.specs.declared.streams.Next.TheVariants.{Header, Event, End, Malformed, Limit, ReadFault, OutOfMemory}
 use Rattle.dt_record.specs.Spelling.{Version}
-use Rattle.dt_dump.specs.Dump.{end_of, last_line, last_status, dump_status, memory_line, read_fault_line, AppendsPart}
+use Rattle.dt_dump.specs.Dump.{end_of, last_line, last_status, dump_status, memory_line, AppendsPart}
 use Rattle.dt_dump.proofs.Underway.{told_map}
 use Rattle.dt_convert.specs.Convert.{file_with, ending_bytes, converted, MayConvert}
 use Rattle.dt_convert.specs.Reading.{IsFileOf, StopsAt}

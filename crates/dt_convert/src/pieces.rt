@@ -15,25 +15,11 @@ use std::alloc::AllocError;
 fn header_of(version: FileVersion, harts: u8, wide: bool) -> [u8; 16]
     ensures { result ≡ header_bytes (version_of version) harts wide }
 {
-    let number = number_of(version);
-    [
-        b'S',
-        b'M',
-        b'P',
-        b'D',
-        b'I',
-        b'F',
-        b'F',
-        0,
-        number,
-        0,
-        harts,
-        u8::from(wide),
-        0,
-        0,
-        0,
-        0,
-    ]
+    let mut header = *b"SMPDIFF\0\0\0\0\0\0\0\0\0";
+    header[8] = number_of(version);
+    header[10] = harts;
+    header[11] = u8::from(wide);
+    header
 }
 
 /// Appends the header of a file.
