@@ -196,11 +196,11 @@ whole r wrote_byte rest = (r, wrote_byte, rest)
 abbrev joined : ℕ → ℕ → Parts → Whole
 joined stamp hart p = whole (record { stamp = stamp; hart = hart; body = p.0 }) p.1 p.2
 
-read_fields : List ℕ → Whole
+pub read_fields : List ℕ → Whole
 read_fields bytes =
     with_byte bytes (λ tag a. with_byte a (λ hart b. with_double b (λ stamp c. joined stamp hart (read_body tag c))))
 
-fields_again : (r : Record) (w : ℕ) (rest : List ℕ) → FitsRecord r → IsWroteByte w r.body → read_fields (wide_bytes_with w r ++ rest) ≡ whole r w rest
+pub fields_again : (r : Record) (w : ℕ) (rest : List ℕ) → FitsRecord r → IsWroteByte w r.body → read_fields (wide_bytes_with w r ++ rest) ≡ whole r w rest
 unfolding read_fields wide_bytes_with
 fields_again r w rest fits is =
     let regrouped : wide_bytes_with w r ++ rest ≡ tag_number r.body ∷ r.hart ∷ (double r.stamp ++ (body_bytes_with w r.body ++ rest)) = ap (λ (z : List ℕ). tag_number r.body ∷ r.hart ∷ z) (append_assoc (double r.stamp) (body_bytes_with w r.body) rest) in

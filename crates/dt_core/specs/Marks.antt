@@ -1,0 +1,52 @@
+-- What notes say of how far each hart has come. All of it is this project's own.
+use Rattle.std.specs.Prelude.{◌≡◌, ℕ, zero, suc, ◌-◌, ◌<◌, ◌⊎◌, ◌==◌, ◌&&◌, ◌||◌, nat_lt, min, Bool, true, false, Option, Some, None, List, length, slice_index, if◌then◌else◌}
+use Rattle.std.specs.List.{filter_map, list_any}
+use Rattle.dt_record.specs.declared.writes.Note.{Note}
+use Rattle.dt_record.specs.declared.writes.Note.TheVariants.{Mark, End}
+
+-- the stamp of a Mark of this hart
+abbrev pub stamp_in : ℕ → Note → Option ℕ
+stamp_in hart (Mark h stamp) = if h == hart then Some stamp else None
+stamp_in hart _ = None
+
+-- whether it is an End of this hart
+abbrev pub ends : ℕ → Note → Bool
+ends hart (End h) = h == hart
+ends hart _ = false
+
+-- the stamps of the hart's Marks, in order
+abbrev pub marks_of : ℕ → List Note → List ℕ
+marks_of hart notes = filter_map (stamp_in hart) notes
+
+-- the hart's mark: the stamp of its last Mark, or 0 where it has none
+abbrev pub mark_of : ℕ → List Note → ℕ
+mark_of hart notes = let marks = marks_of hart notes in slice_index marks (length marks - 1)
+
+-- whether the hart has an End
+abbrev pub has_ended : ℕ → List Note → Bool
+has_ended hart notes = list_any (ends hart) notes
+
+-- the lesser of a mark and the least of others, where there is one
+abbrev pub least_with : ℕ → Option ℕ → ℕ
+least_with mark None = mark
+least_with mark (Some least) = min mark least
+
+-- the least mark of the harts below `harts` that have no End; none where all have one
+abbrev pub least_mark : ℕ → List Note → Option ℕ
+least_mark zero notes = None
+least_mark (suc hart) notes =
+    if has_ended hart notes then least_mark hart notes else Some (least_with (mark_of hart notes) (least_mark hart notes))
+
+-- a record of this cycle may be judged: each hart below `harts` has a mark strictly above it, or an End
+abbrev pub CanJudge : ℕ → List Note → ℕ → Type 0
+CanJudge harts notes stamp = (hart : ℕ) → hart < harts → (has_ended hart notes ≡ true) ⊎ (stamp < mark_of hart notes)
+
+-- the same as a test
+abbrev pub can_judge : ℕ → List Note → ℕ → Bool
+can_judge zero notes stamp = true
+can_judge (suc hart) notes stamp = (has_ended hart notes || nat_lt stamp (mark_of hart notes)) && can_judge hart notes stamp
+
+-- the mark after one more note
+abbrev pub mark_with : ℕ → Option ℕ → ℕ
+mark_with mark None = mark
+mark_with mark (Some stamp) = stamp

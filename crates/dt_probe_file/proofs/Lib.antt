@@ -1,0 +1,7 @@
+pub mod Deciding
+pub mod Files
+pub mod Heading
+pub mod HeldParts
+pub mod OneAnswer
+pub mod Stepping
+pub mod Telling

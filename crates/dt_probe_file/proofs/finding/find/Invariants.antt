@@ -1,0 +1,15 @@
+use Rattle.std.proofs.Common.{◌≡◌, ◌≤◌, ◌-◌, length}
+use Rattle.dt_probe_file.specs.Parts.{whole}
+use Rattle.dt_probe_file.proofs.finding.find.Given as goal
+
+-- nothing was taken away
+abbrev pub invariant-loop-event : goal.invariant-loop-event
+invariant-loop-event g l =
+    let left = g.S.Source.left in
+    record {
+      whole : whole l.held (left l.source) ≡ whole l.fn.held (left l.fn.source);
+      counted : g.S.Source.faults l.fn.source ≤ g.S.Source.faults l.source;
+    }
+
+abbrev pub decreases-loop-event : goal.decreases-loop-event
+decreases-loop-event g l = 1024 - length l.held

@@ -1,0 +1,15 @@
+use Rattle.std.proofs.Common.{◌≡◌, ◌≤◌, ◌-◌, length}
+use Rattle.dt_probe_file.specs.Parts.{whole}
+use Rattle.dt_probe_file.proofs.finding.hear.Given as goal
+
+-- nothing was taken away
+abbrev pub invariant-loop-version : goal.invariant-loop-version
+invariant-loop-version g l =
+    let left = g.S.Source.left in
+    record {
+      whole : whole l.held (left l.source) ≡ whole l.fn.held (left l.fn.source);
+      counted : g.S.Source.faults l.fn.source ≤ g.S.Source.faults l.source;
+    }
+
+abbrev pub decreases-loop-version : goal.decreases-loop-version
+decreases-loop-version g l = 16 - length l.held

@@ -1,0 +1,9 @@
+use Rattle.dt_probe_file.proofs.Telling.{of_are}
+use Rattle.dt_probe_file.proofs.OneAnswer.{answers_are_one}
+use Rattle.dt_probe_file.proofs.laws.one_list.Goals as goal
+
+pub returns-clause-some : goal.returns-clause-some
+returns-clause-some c = of_are
+
+pub returns-clause-one : goal.returns-clause-one
+returns-clause-one c = answers_are_one

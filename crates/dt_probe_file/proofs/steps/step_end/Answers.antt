@@ -1,0 +1,12 @@
+use Rattle.std.proofs.Common.{Bool, Ok, ap}
+use Rattle.dt_probe_file.proofs.Stepping.{end_followed, end_alone}
+use Rattle.dt_probe_file.proofs.steps.step_end.Goals as goal
+
+pub returns-in-Ok-true-clause-told : goal.returns-in-Ok-true-clause-told
+returns-in-Ok-true-clause-told g c =
+    end_followed c.args.opened.now c.args.held.now c.take_away.new.self c.is_more.new.held _ _ c.requires.front c.take_away.ensures c.in-Ok-true.ensures.whole (c.in-Ok-true.ensures.more (ap (λ (b : Bool). Ok b) c.in-Ok-true.field-0-test))
+
+pub returns-in-Ok-false-clause-told : goal.returns-in-Ok-false-clause-told
+returns-in-Ok-false-clause-told g c =
+    let none = c.in-Ok-false.ensures.none (ap (λ (b : Bool). Ok b) c.in-Ok-false.field-0-test) in
+    end_alone c.args.opened.now c.args.held.now c.take_away.new.self c.is_more.new.held _ _ c.requires.front c.take_away.ensures c.in-Ok-false.ensures.whole none.0 none.1

@@ -1,0 +1,76 @@
+ghost use Rattle.std.specs.Prelude.{◌≡◌, ◌≤◌, ◌↔◌, None, IfOk, IsTrue, IsSome, IsNone};
+ghost use Rattle.std.specs.Option.{ForSome};
+ghost use Rattle.dt_record.specs.Streams.{Continues, TakesAnswer, Rose, IsFresh};
+ghost use Rattle.dt_record.specs.declared.streams.Next.{Next};
+ghost use Rattle.dt_probe_file.specs.Fronts.{IsSound};
+ghost use Rattle.dt_probe_file.specs.Parts.{whole};
+ghost use Rattle.dt_probe_file.specs.Told.{AreToldOf, ended_by, left_of, progress_of};
+
+use crate::holding::Held;
+use crate::reading::Opened;
+use crate::steps::{step_behind, step_header};
+use dt_record::{Next, Probes};
+use dt_source::Source;
+use std::alloc::{AllocError, Global};
+
+/// The stream of answers that the bytes of a probe file give, of version 1 or 2. It reads no further
+/// than it has to, and takes all of its memory when it is made.
+#[derive(Drop)]
+pub struct FileProbes<S: Source> {
+    source: S,
+    held: Held,
+    /// The file, once its header has come.
+    opened: Option<Opened>,
+    /// The answer that ended the stream.
+    ended: Option<Next>,
+    ghost sound: { ForSome opened IsSound },
+}
+
+/// The answer itself, if none comes after it.
+fn last_answer(answer: &Next) -> Option<Next>
+    ensures { result ≡ ended_by answer.now }
+{
+    match answer {
+        Next::Header { .. } | Next::Event(_) => None,
+        _ => Some(*answer),
+    }
+}
+
+impl<S: Source + Drop> FileProbes<S> {
+    /// A stream over the whole of what the source has left.
+    pub fn new(alloc: Global, source: S) -> Result<FileProbes<S>, AllocError>
+        ensures fresh { IfOk result (λ probes. IsFresh (⟦<FileProbes<S> as Probes>⟧.progress probes)) }
+        ensures told { IfOk result (λ probes. AreToldOf (S.left source) (⟦<FileProbes<S> as Probes>⟧.left probes)) }
+        ensures faults { IfOk result (λ probes. ⟦<FileProbes<S> as Probes>⟧.faults probes ≡ S.faults source) }
+    {
+        let held = Held::new(alloc)?;
+        Ok(FileProbes {
+            source,
+            held,
+            opened: None,
+            ended: None,
+        })
+    }
+}
+
+impl<S: Source> Probes for FileProbes<S> {
+    ghost progress = { λ p. progress_of p.opened p.ended };
+
+    ghost left = { λ p. left_of p.opened p.ended (whole p.held (S.left p.source)) };
+
+    ghost faults = { λ p. S.faults p.source };
+
+    fn is_over(&self) -> bool {
+        self.ended.is_some()
+    }
+
+    fn next(&mut self) -> Next {
+        let step = match &self.opened {
+            None => step_header(&mut self.source, &mut self.held),
+            Some(opened) => step_behind(&mut self.source, &mut self.held, opened),
+        };
+        self.opened = step.opened;
+        self.ended = last_answer(&step.answer);
+        step.answer
+    }
+}

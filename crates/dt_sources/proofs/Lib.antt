@@ -1,0 +1,10 @@
+mod Choices
+mod Floors
+mod Fronts
+mod KnowingLaws
+mod KnownFloors
+mod Places
+mod Ranks
+mod TriedMoments
+mod Untaken
+mod YoungestStores

@@ -1,0 +1,4 @@
+pub mod Choice
+pub mod Finding
+pub mod Knowing
+pub mod Tries
