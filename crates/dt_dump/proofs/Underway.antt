@@ -58,7 +58,7 @@ pub told_map : (told : Option (List Next)) (P Q : List Next → Type 0) → IfSo
 told_map None P Q h go = tt
 told_map (Some answers) P Q h go = go answers h
 
-some_and : {A : Type 0} (o : Option A) (P : A → Type 0) → IsSomeAnd o P → (x : A) × (o ≡ Some x) × P x
+pub some_and : {A : Type 0} (o : Option A) (P : A → Type 0) → IsSomeAnd o P → (x : A) × (o ≡ Some x) × P x
 some_and None P h = absurd h
 some_and (Some x) P h = (x, refl, h)
 
@@ -72,7 +72,7 @@ zero_before xs h (suc k) = h k
 pub zeros : (k : ℕ) → slice_index (0 ∷ 0 ∷ 0 ∷ 0 ∷ 0 ∷ 0 ∷ 0 ∷ 0 ∷ []) k ≡ 0
 zeros = zero_before (0 ∷ 0 ∷ 0 ∷ 0 ∷ 0 ∷ 0 ∷ 0 ∷ []) (zero_before (0 ∷ 0 ∷ 0 ∷ 0 ∷ 0 ∷ 0 ∷ []) (zero_before (0 ∷ 0 ∷ 0 ∷ 0 ∷ 0 ∷ []) (zero_before (0 ∷ 0 ∷ 0 ∷ 0 ∷ []) (zero_before (0 ∷ 0 ∷ 0 ∷ []) (zero_before (0 ∷ 0 ∷ []) (zero_before (0 ∷ []) (zero_before [] (λ k. refl))))))))
 
-come_first : (told : Option (List Next)) → IfSome told (λ answers. HasCome answers told [])
+pub come_first : (told : Option (List Next)) → IfSome told (λ answers. HasCome answers told [])
 come_first None = tt
 come_first (Some answers) = record { rest = answers; left_is = refl; records = refl; ending = refl }
 
@@ -80,9 +80,17 @@ fresh_few : (harts : Option ℕ) → harts ≡ None → IfSome harts (λ h. h �
 fresh_few None e = tt
 fresh_few (Some h) e = cc
 
-no_harts : (harts : Option ℕ) (P : Type 0) → harts ≡ None → IsSome harts → P
+pub no_harts : (harts : Option ℕ) (P : Type 0) → harts ≡ None → IsSome harts → P
 no_harts None P e some = cc
 no_harts (Some h) P e some = cc
+
+pub tells_first : (p : Progress) → IsFresh p → HasTold p []
+tells_first p fresh = record {
+  open_still = fresh.open_still;
+  few_harts = fresh_few p.harts fresh.no_header;
+  none_yet = λ _. refl;
+  events = no_harts p.harts _ fresh.no_header;
+}
 
 pub starts : (told : Option (List Next)) (written : Option (List ℕ)) (counts : List ℕ) (p : Progress) → IsFresh p → length counts ≡ 8
     → ((hart : ℕ) → hart < 8 → slice_index counts hart ≡ 0) → IsUnderway told told written written counts p
@@ -92,17 +100,12 @@ starts told written counts p fresh eight zeros = record {
   came = come_first told;
   lines = Appends-nil written;
   counted = record { eight = eight; each = zeros };
-  tells = record {
-    open_still = fresh.open_still;
-    few_harts = fresh_few p.harts fresh.no_header;
-    none_yet = λ _. refl;
-    events = no_harts p.harts _ fresh.no_header;
-  };
+  tells = tells_first p fresh;
 }
 
 -- ---- a header
 
-come_header : (answers : List Next) (left after : Option (List Next)) (given : List Record) (harts : ℕ) (wide : Bool)
+pub come_header : (answers : List Next) (left after : Option (List Next)) (given : List Record) (harts : ℕ) (wide : Bool)
     → TakesAnswer left (Header harts wide) after → HasCome answers left given → HasCome answers after given
 come_header answers left after given harts wide takes h =
     let t = subst (λ (z : Option (List Next)). TakesAnswer z (Header harts wide) after) h.left_is takes in
@@ -113,7 +116,7 @@ come_header answers left after given harts wide takes h =
       ending = h.ending ∙ ap end_of t.1;
     }
 
-tells_header : (old new : Progress) (given : List Record) (harts : ℕ) (wide : Bool) → TakesHeader old harts wide new → HasTold old given → HasTold new given
+pub tells_header : (old new : Progress) (given : List Record) (harts : ℕ) (wide : Bool) → TakesHeader old harts wide new → HasTold old given → HasTold new given
 tells_header old new given harts wide t h = record {
   open_still = t.open_still;
   few_harts = subst (λ (o : Option ℕ). IfSome o (λ n. n ≤ 8)) (sym t.harts_are) t.few_harts;
@@ -137,7 +140,7 @@ fewer_after_header old new harts wide t = rw (t.first, t.harts_are) (omega arith
 
 -- ---- a record
 
-come_record : (answers : List Next) (left after : Option (List Next)) (given : List Record) (r : Record)
+pub come_record : (answers : List Next) (left after : Option (List Next)) (given : List Record) (r : Record)
     → TakesAnswer left (Event r) after → HasCome answers left given → HasCome answers after (given ++ r ∷ [])
 come_record answers left after given r takes h =
     let t = subst (λ (z : Option (List Next)). TakesAnswer z (Event r) after) h.left_is takes in
@@ -187,7 +190,7 @@ counts_record counts given r fits h = record {
         let no : (r.hart == hart) ≡ false = ne_eqb r.hart hart other in
         there ∙ h.each hart below ∙ sym (add-zero (length (records_of hart given))) ∙ ap (λ (b : Bool). length (records_of hart given) + cond b 1 0) (sym no)
 
-tells_record : (old new : Progress) (given : List Record) (r : Record) → TakesRecord old r new → HasTold old given → HasTold new (given ++ r ∷ [])
+pub tells_record : (old new : Progress) (given : List Record) (r : Record) → TakesRecord old r new → HasTold old given → HasTold new (given ++ r ∷ [])
 tells_record old new given r t h =
     let some = some_and old.harts _ t.next in
     record {
@@ -234,7 +237,7 @@ has_room counts old new given r t h counted =
 
 -- ---- the last answer
 
-came_last : (answers : List Next) (left after : Option (List Next)) (given : List Record) (last : Next) → HasCome answers left given → TakesAnswer left last after
+pub came_last : (answers : List Next) (left after : Option (List Next)) (given : List Record) (last : Next) → HasCome answers left given → TakesAnswer left last after
     → IsLast last → CameTo answers given last
 came_last answers left after given (Header harts wide) h takes is = absurd is
 came_last answers left after given (Event r) h takes is = absurd is

@@ -7,3 +7,4 @@ mod lines;
 mod tests;
 
 pub use dumping::dump_probes;
+pub use lines::{WRITE_FAULT, put_last};

@@ -1,0 +1,4 @@
+pub mod Drafts
+pub mod Endings
+pub mod Headers
+pub mod Files

@@ -1,0 +1,24 @@
+use Rattle.std.proofs.Common.{◌<◌, refl, arith}
+use Rattle.dt_dump.proofs.Underway.{hart_fits, zeros}
+use Rattle.dt_convert.proofs.Drafts.{after_record, lawful_next, starts}
+use Rattle.dt_convert.proofs.converting.file_of.Goals as goal
+
+pub loop-harts-init : goal.loop-harts-init
+loop-harts-init g c = record {
+  draft = rw c.new-bytes.ensures.items (starts _ _ _ _ c.requires refl (λ hart _. zeros hart));
+  counted = omega arith;
+}
+
+pub put_record-requires-clause-lawful : goal.put_record-requires-clause-lawful
+put_record-requires-clause-lawful g c = lawful_next _ _ c.in-Event.event c.in-Event.ensures.step
+
+pub loop-harts-preserved : goal.loop-harts-preserved
+loop-harts-preserved g c =
+    let d = c.loop-harts.invariant.draft in
+    let r = c.in-Event.event in
+    let step = c.in-Event.ensures.step in
+    let fits : r.hart < 8 = hart_fits _ _ d.given r step d.tells in
+    record {
+      draft = rw (c.in-Ok-put_record.ensures.spelled, c.in-Ok-put_record.ensures.stamped) (after_record _ _ _ _ _ _ _ _ r d c.in-Event.ensures.told step fits);
+      counted = omega (arith, c.loop-harts.invariant.counted, c.in-Event.ensures.rising);
+    }
