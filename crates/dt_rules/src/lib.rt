@@ -1,13 +1,15 @@
-//! The tests that settle a departure from the reference: interrupts, tval, counters, pending bits
-//! and device reads. Each is one question with one answer; the letters that reports print for them
-//! and the reasons of a refusal are those of dt_record.
+//! The tests that settle a departure from the reference: interrupts, tval, counters, pending bits,
+//! device reads and reservations. Each is one question with one answer; the letters that reports
+//! print for them and the reasons of a refusal are those of dt_record.
 #![tactic(auto)]
 
 mod adopted;
+mod reservations;
 #[cfg(test)]
 mod tests;
 mod traps;
 
 pub use adopted::{counter, device, pending};
 pub use dt_record::{Letters, Reason};
+pub use reservations::sc_live;
 pub use traps::{interrupt, tval};

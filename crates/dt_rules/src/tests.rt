@@ -1,5 +1,8 @@
-use crate::{counter, device, interrupt, pending, tval};
+use crate::{counter, device, interrupt, pending, sc_live, tval};
 use dt_csr::Csrs;
+use dt_record::{Image, Key, Write};
+use dt_versions::Moments;
+use std::test::Fail;
 
 const MACHINE_TIMER: u64 = 0x8000_0000_0000_0007;
 
@@ -73,4 +76,31 @@ fn adopted_values(rt: HostRuntime) {
         (device(4, true, 0x8000_0000), device(2, false, 0x1_0000)),
         (false, false)
     );
+}
+
+const LINE: u64 = 0x8000_0100;
+
+fn key(stamp: u64, hart: u8, seq: u32) -> Key {
+    Key { stamp, hart, seq }
+}
+
+#[test]
+fn another_harts_write_ends_a_reservation(rt: HostRuntime) -> Result<(), Fail> {
+    let mut moments = Moments::empty(rt.alloc(), Image::of(Vec::new(rt.alloc())));
+    let reserved = Some((LINE, key(6, 1, 5)));
+    assert!(rt; sc_live(&moments, reserved, LINE, key(15, 1, 6)));
+    assert!(rt; !sc_live(&moments, reserved, LINE + 64, key(15, 1, 6)));
+    assert!(rt; !sc_live(&moments, None, LINE, key(15, 1, 6)));
+    let drained = Write {
+        key: key(10, 0, 5),
+        line: LINE,
+        mask: 0xff,
+        bytes: [0; 64],
+    };
+    assert!(rt; moments.can_add(&drained));
+    moments.add(drained)?;
+    assert!(rt; !sc_live(&moments, reserved, LINE, key(15, 1, 6)));
+    assert!(rt; sc_live(&moments, reserved, LINE, key(9, 1, 6)));
+    assert!(rt; sc_live(&moments, Some((LINE, key(6, 0, 4))), LINE, key(15, 0, 6)));
+    Ok(())
 }
