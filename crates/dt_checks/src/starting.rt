@@ -19,7 +19,7 @@ pub struct Started {
     pub stale: bool,
 }
 
-fn started(a: &Arch, bits: u32, tag: u8, stale: bool) -> Result<Started, Misfit>
+fn retired_start(a: &Arch, bits: u32, tag: u8, stale: bool) -> Result<Started, Misfit>
     requires arch { IsArch a.now }
     requires instruction { IsTrue (is_instruction bits) }
     ensures value { result ≡ started_check a.now bits tag stale }
@@ -44,7 +44,7 @@ fn fetched_start(
     ensures retired { IfOk result (λ started. IsRetired a.now bits tag started.plan) }
 {
     let stale = fetched(m, spans, a, bits)?;
-    started(a, bits, tag, stale)
+    retired_start(a, bits, tag, stale)
 }
 
 /// The checks that each record of a retired instruction begins with: its pc, its fetch, and that it
