@@ -1,5 +1,5 @@
 -- What holds of a plan that the check of its kind lets through.
-use Rattle.std.proofs.Common.{◌≡◌, ℕ, ◌==◌, Bool, true, false, Option, Some, None, Ok, Err, Result, IsSomeAnd, IfOk, IsTrue, refl, sym, ap, subst, eqb-true, arith}
+use Rattle.std.proofs.Common.{◌≡◌, ℕ, Bool, true, false, Option, Some, None, Ok, Err, Result, IsSomeAnd, IfOk, IsTrue, refl, sym, ap, subst, eqb-true, arith}
 use Rattle.std.specs.Option.{option_map_or}
 use Rattle.dt_decode.specs.declared.instructions.Instr.{Instr}
 use Rattle.dt_decode.specs.Decoded.{IsDecoded}
@@ -12,7 +12,7 @@ use Rattle.dt_step.specs.declared.plans.Planned.TheVariants.{Done, NeedsLoad, Ne
 use Rattle.dt_step.specs.declared.state.Arch.{Arch}
 use Rattle.dt_step.specs.Causes.{due_cause, due_tval}
 use Rattle.dt_step.specs.Plans.{legal_plan, plan_of}
-use Rattle.dt_checks.specs.Retiring.{AccessesAligned, IsRetired, due_tag, plan_check, raised}
+use Rattle.dt_checks.specs.Retiring.{IsRetired, due_tag, plan_check, raised}
 use Rattle.dt_checks.proofs.Accesses.{legal_plan-aligned}
 
 some_and : (o : Option Instr) (i : Instr) (P : Instr → Type 0) → o ≡ Some i → P i → IsSomeAnd o P
