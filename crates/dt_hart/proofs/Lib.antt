@@ -1,2 +1,5 @@
+mod AccessLaws
+mod Bits
 mod Members
 mod OwnKeys
+mod ReadKeys
