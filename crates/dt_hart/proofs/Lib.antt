@@ -1,5 +1,12 @@
 mod AccessLaws
 mod Bits
+mod BuiltKinds
+mod Earlier
+mod Floors
+mod GoingOn
+mod KnowingOn
 mod Members
 mod OwnKeys
 mod ReadKeys
+mod SameHart
+mod StoreNumbers
