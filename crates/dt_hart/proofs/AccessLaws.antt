@@ -47,7 +47,7 @@ noted_same line mask key byte =
     let within : byte % 64 < 64 = omega arith in
     let long = length-replicate 64 key in
     let found : slice_get (replicate 64 key) (byte % 64) ≡ Some key =
-        slice_get-get_or (replicate 64 key) (byte % 64) key (omega arith) ∙ ap Some (get_or-replicate 64 (byte % 64) key key within) in
+    slice_get-get_or (replicate 64 key) (byte % 64) key (omega arith) ∙ ap Some (get_or-replicate 64 (byte % 64) key key within) in
     rw found refl
 
 -- what a load from RAM noted

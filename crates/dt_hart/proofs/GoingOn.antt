@@ -10,6 +10,7 @@ use Rattle.dt_reference.specs.HartActions.{action_of, actions_of}
 use Rattle.dt_reference.specs.Run.{after_record, state_after}
 use Rattle.dt_sources.specs.Choice.{ChoosesLeast, LeastChoiceGoesOn}
 use Rattle.dt_sources.specs.Knowing.{Knows, AreJudged, KnowingGoesOn, NotesAreAdded}
+use Rattle.dt_judged.specs.GoingOn.{JudgedGoesOn}
 use Rattle.dt_step.specs.declared.state.Arch.{Arch}
 use Rattle.dt_stores.specs.Standing.{StandsFor as Keeps}
 use Rattle.dt_hart.specs.declared.accesses.Accesses.{Accesses}
@@ -20,10 +21,11 @@ use Rattle.dt_hart.specs.HartView.{HartView}
 use Rattle.dt_hart.specs.OwnWrites.{GoesOn}
 use Rattle.dt_hart.specs.Settings.{Setting, after, did, does, key_in, moments_after, next_key}
 use Rattle.dt_hart.specs.Standing.{StandsFor}
-use Rattle.dt_hart.specs.Taking.{WasJudged, moment_read}
+use Rattle.dt_hart.specs.Taking.{WasJudged, is_placed, moment_read}
 use Rattle.dt_hart.proofs.BuiltKinds.{Kind, Idle, Loads, Stores, Drains, kind_of}
 use Rattle.dt_hart.proofs.Earlier.{key_after}
 use Rattle.dt_hart.proofs.Floors.{last_read-snoc, order_floor-snoc}
+use Rattle.dt_hart.proofs.JudgedOn.{judged_after}
 use Rattle.dt_hart.proofs.KnowingOn.{known_next, known_after, chosen_after}
 use Rattle.dt_hart.proofs.OwnKeys.{stamp_from-snoc}
 
@@ -66,6 +68,7 @@ pub record Laws : Type 0 where
   pub knowing : KnowingGoesOn
   pub added : NotesAreAdded
   pub least : LeastChoiceGoesOn
+  pub judging : JudgedGoesOn
 
 next_after : (s : Setting) (r : Record) (moment : ℕ) → next_key (after s r moment) ≡ key_after s r
 next_after s r moment =
@@ -74,10 +77,9 @@ next_after s r moment =
     ap (λ stamp. with_stamp stamp (length (s.before ++ r ∷ []))) (stamp_from-snoc 0 s.before r) ∙ ap (with_stamp r.stamp) long
 
 pub goes_on : Laws → (a b : Arch) (seq stamp : ℕ) (old new : Accesses) (r : Record) (read : Option ReadFrom) → IsTrue (is_built r)
-    → b ≡ after_record a r → Follows old new (key_of seq r) r.body read → (s : Setting) → StandsFor (kept a seq stamp old) s → GoesOn s r → WasJudged s r read
-    → AreJudged s.writes (did s ++ option_to_list (does s r)) (key_after s r)
+    → IsTrue (is_placed (action_of seq r)) → b ≡ after_record a r → Follows old new (key_of seq r) r.body read → (s : Setting) → StandsFor (kept a seq stamp old) s → GoesOn s r → WasJudged s r read
     → StandsFor (kept b (seq + 1) r.stamp new) (after s r (moment_read read))
-goes_on laws a b seq stamp old new r read built state follow s stands g known judged =
+goes_on laws a b seq stamp old new r read built placed state follow s stands g known =
     let moment : ℕ = moment_read read in
     let kind : Kind (key_in s r) r.body = kind_of (key_in s r) r.body built in
     let follows : Follows old new (key_in s r) r.body read = subst (λ n. Follows old new (key_of n r) r.body read) stands.seq follow in
@@ -88,6 +90,8 @@ goes_on laws a b seq stamp old new r read built state follow s stands g known ju
     let l : LocalMemory = local_memory new.local.keys None in
     let knows = known_after laws.knowing laws.added old.local new.local s r g read (known_next laws.knowing (kept a seq stamp old) s r stands g) follows.keys known.is_read kind in
     let chosen = chosen_after laws.least s r read stands.chosen known.is_read kind in
+    let place : IsTrue (is_placed (does s r)) = subst (λ n. IsTrue (is_placed (action_of n r))) stands.seq placed in
+    let judged = judged_after laws.judging (kept a seq stamp old) s r g stands known.is_drained place kind in
     record {
       seq = ap (λ n. n + 1) stands.seq ∙ sym long;
       stamp = sym (stamp_from-snoc 0 s.before r);

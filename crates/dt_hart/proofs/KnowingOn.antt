@@ -111,9 +111,9 @@ load_known laws added old new s r g from knows notes load read =
     (moments_stay s.moments (did s) from.moment)
     (λ byte. added.reads s.writes (did s) (others (length (did s))) (Loaded load.ask) (key_in s r) (key_after s r) byte (only_earlier s r g load.write byte))
     (λ byte.
-        notes byte ∙ ap (greater (newest_of old byte))
-        (load.noted from byte ∙ read_origins s.writes (did s) load.ask from.moment from.sources read.sources byte
-        ∙ ap (λ n. write_key (origin_at s.writes (did s) n (Loaded load.ask) byte)) (sym (moment_is s.moments (did s) from.moment)))))
+    notes byte ∙ ap (greater (newest_of old byte))
+    (load.noted from byte ∙ read_origins s.writes (did s) load.ask from.moment from.sources read.sources byte
+    ∙ ap (λ n. write_key (origin_at s.writes (did s) n (Loaded load.ask) byte)) (sym (moment_is s.moments (did s) from.moment)))))
 
 store_known : KnowingGoesOn → NotesAreAdded → (old new : LocalMemory) (s : Setting) (r : Record) (g : GoesOn s r) (read : Option ReadFrom) (moment : ℕ) → Knows old s.writes (did s) s.moments (key_in s r)
     → Notes old new s r read → IsStore (key_in s r) r.body → KnowsAfter new s r moment
@@ -139,7 +139,7 @@ drain_known laws added old new s r g read moment knows notes d =
     (laws.action old new s.writes (did s) s.moments s.moments (Drained (key_in s r) d.line d.count) (key_in s r) (key_after s r) (λ byte. covering_key byte w) knows (is_its s r g) (after_rises s r g)
     (λ place within. refl)
     (λ byte. added.writes s.writes (did s) (s.moments (length (did s))) (Drained (key_in s r) d.line d.count) (key_in s r) (key_after s r) byte w
-        (write_is_there s r g w (drain_wrote s r d)) refl (is_its s r g) (next_below_after s r g) (only_its s r g w (drain_wrote s r d) byte))
+    (write_is_there s r g w (drain_wrote s r d)) refl (is_its s r g) (next_below_after s r g) (only_its s r g w (drain_wrote s r d) byte))
     (λ byte. notes byte ∙ ap (λ b. greater (newest_of old byte) (noted_by (key_in s r) b read byte)) d.is))
 
 -- whatever the record is, local memory goes on knowing

@@ -4,6 +4,7 @@ mod BuiltKinds
 mod Earlier
 mod Floors
 mod GoingOn
+mod JudgedOn
 mod KnowingOn
 mod Members
 mod OwnKeys

@@ -35,7 +35,7 @@ pub read_key-push : (place : ℕ) (from : List Origin) (source : Origin) (at : �
 read_key-push place from source at = elim (cases_order at (place + length from)) [
   | inl here ↦
       let seam : slice_get (from ++ source ∷ []) (at - place) ≡ Some source =
-          ap (λ n. slice_get (from ++ source ∷ []) n) (omega arith) ∙ slice_get-append_seam from source [] in
+      ap (λ n. slice_get (from ++ source ∷ []) n) (omega arith) ∙ slice_get-append_seam from source [] in
       rw (eq-eqb at (place + length from) here) (read_key-within place (from ++ source ∷ []) at (omega arith) ∙ ap write_key seam)
   | inr apart ↦ elim apart [
     | inl before ↦

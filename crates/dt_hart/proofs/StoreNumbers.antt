@@ -16,7 +16,7 @@ use Rattle.dt_record.specs.Lawful.{is_in_ram}
 use Rattle.dt_step.specs.declared.plans.Planned.{Planned}
 use Rattle.dt_step.specs.declared.plans.Planned.TheVariants.{Fences}
 use Rattle.dt_step.specs.Plans.{fence_of}
-use Rattle.dt_reference.specs.HartActions.{action_of, actions_from, body_action, commit_action, fenced}
+use Rattle.dt_reference.specs.HartActions.{action_of, actions_from, body_action, commit_action, fenced, width_of}
 use Rattle.dt_reference.specs.Meaning.{meaning_of}
 use Rattle.dt_stores.specs.Standing.{stores_of}
 use Rattle.dt_hart.proofs.Members.{cons_cases, no_element}
@@ -41,7 +41,11 @@ store_number key (Load retire at paddr) store is = elim (cases_Bool (is_in_ram p
   | inr device ↦ absurd (let no = rw device at is in cc no)
 ]
 store_number key (Store pc bits paddr value) store is = elim (cases_Bool (is_in_ram paddr)) [
-  | inl ram ↦ let same = rw ram at is in ap (λ (s : OwnStore). s.seq) (sym (cc same))
+  | inl ram ↦
+      let made : OwnStore = record { seq = key.seq; addr = paddr; width = width_of (meaning_of bits); value = value } in
+      let same : Some (Stored made) ≡ Some (Stored store) = rw ram at is in
+      let one : made ≡ store = cc same in
+      sym (ap (λ (s : OwnStore). s.seq) one)
   | inr device ↦ absurd (let no = rw device at is in cc no)
 ]
 store_number key (Atomic retire paddr width wrote new) store is = absurd (cc is)
