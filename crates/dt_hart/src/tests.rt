@@ -1,7 +1,6 @@
 use crate::{Hart, ReadFrom, is_built, is_placed, known_at_next};
 use dt_record::{Body, Key, Origin, Record, Retire, Sources, lawful};
 use dt_reference::can_follow;
-use dt_stores::Forward;
 use std::process::Abort;
 use std::test::Fail;
 
@@ -70,51 +69,41 @@ fn take(
 fn a_store_is_forwarded_and_then_drained(rt: HostRuntime) -> Result<(), Fail> {
     known_at_next();
     let mut hart = Hart::new(rt.alloc(), 0, false);
-    take(
-        &rt,
-        &mut hart,
-        1,
-        commit(0x8000_0000, 0x0000_0297, 0x8000_0000),
-        None,
-    )?;
-    take(&rt, &mut hart, 2, commit(0x8000_0004, 0x0070_0393, 7), None)?;
     let store = Body::Store {
         pc: 0x8000_0008,
         bits: 0x1072_b023,
         paddr: LINE,
         value: 7,
     };
-    take(&rt, &mut hart, 3, store, None)?;
-    take(
-        &rt,
-        &mut hart,
-        4,
-        load(0x8000_000c, 4),
-        Some(everywhere(0, Origin::Store(2))),
-    )?;
-    assert_eq!(rt; hart.local().newest(LINE), None);
-    let waiting = Forward {
-        seq: 2,
-        byte: 7,
-        drained: None,
-    };
-    assert_eq!(rt; hart.stores().forward(LINE, 4), Some(waiting));
-    take(&rt, &mut hart, 5, drain(), None)?;
     let key = Key {
         stamp: 5,
         hart: 0,
         seq: 4,
     };
-    assert_eq!(rt; hart.local().newest(LINE + 7), Some(key));
-    assert_eq!(rt; hart.local().newest(LINE + 8), None);
-    assert_eq!(rt; hart.stores().forward(LINE, 5), None);
-    take(
-        &rt,
-        &mut hart,
-        6,
-        load(0x8000_0010, 6),
-        Some(everywhere(1, Origin::Write(key))),
-    )?;
+    for (stamp, body, read) in [
+        (1, commit(0x8000_0000, 0x0000_0297, 0x8000_0000), None),
+        (2, commit(0x8000_0004, 0x0070_0393, 7), None),
+        (3, store, None),
+        (
+            4,
+            load(0x8000_000c, 4),
+            Some(everywhere(0, Origin::Store(2))),
+        ),
+        (5, drain(), None),
+        (
+            6,
+            load(0x8000_0010, 6),
+            Some(everywhere(1, Origin::Write(key))),
+        ),
+    ] {
+        take(&rt, &mut hart, stamp, body, read)?;
+        let drained = stamp >= 5;
+        assert_eq!(rt; hart.local().newest(LINE + 7), drained.then_some(key));
+        assert_eq!(rt;
+            hart.stores().forward(LINE, stamp).is_some(),
+            stamp == 3 || stamp == 4
+        );
+    }
     assert_eq!(rt; (hart.seq(), hart.stamp(), hart.floor()), (6, 6, 0));
     assert_eq!(rt; (hart.arch().pc, hart.arch().x[8]), (0x8000_0014, 7));
     Ok(())
@@ -123,28 +112,24 @@ fn a_store_is_forwarded_and_then_drained(rt: HostRuntime) -> Result<(), Fail> {
 #[test]
 fn a_load_notes_the_write_that_it_read(rt: HostRuntime) -> Result<(), Fail> {
     let mut hart = Hart::new(rt.alloc(), 1, false);
-    take(
-        &rt,
-        &mut hart,
-        1,
-        commit(0x8000_0000, 0x0000_0297, 0x8000_0000),
-        None,
-    )?;
     let key = Key {
         stamp: 10,
         hart: 0,
         seq: 5,
     };
-    take(
-        &rt,
-        &mut hart,
-        12,
-        load(0x8000_0004, 12),
-        Some(everywhere(1, Origin::Write(key))),
-    )?;
-    assert_eq!(rt; hart.local().newest(LINE), Some(key));
-    assert_eq!(rt; hart.local().newest(LINE + 7), Some(key));
-    assert_eq!(rt; hart.local().newest(LINE + 8), None);
+    for (stamp, body, read) in [
+        (1, commit(0x8000_0000, 0x0000_0297, 0x8000_0000), None),
+        (
+            12,
+            load(0x8000_0004, 12),
+            Some(everywhere(1, Origin::Write(key))),
+        ),
+    ] {
+        take(&rt, &mut hart, stamp, body, read)?;
+    }
+    for (addr, known) in [(LINE, Some(key)), (LINE + 7, Some(key)), (LINE + 8, None)] {
+        assert_eq!(rt; hart.local().newest(addr), known);
+    }
     Ok(())
 }
 
