@@ -1,16 +1,13 @@
 -- Lists of writes that begin alike give the same checks.
-use Rattle.std.proofs.Common.{◌≡◌, ℕ, ◌%◌, ◌==◌, Bool, ◌||◌, if◌then◌else◌, List, Ok, Result, ap, ◌∙◌, arith}
+use Rattle.std.proofs.Common.{◌%◌, ◌==◌, Bool, ◌||◌, if◌then◌else◌, Ok, Result, ap, ◌∙◌, arith}
 use Rattle.dt_alu.specs.Words.{sum_of}
 use Rattle.dt_record.specs.declared.reasons.Reason.TheVariants.{Pc}
-use Rattle.dt_record.specs.declared.writes.Write.{Write}
 use Rattle.dt_rules.specs.declared.misfits.Misfit.{Misfit}
 use Rattle.dt_rules.specs.Checks.{and_then, check, misfit}
 use Rattle.dt_translate.specs.Laws.{SameFirstWrites, SameWindows}
 use Rattle.dt_translate.specs.Outcomes.{allowed_moment, outcome_at}
 use Rattle.dt_walk.specs.declared.arguments.Access.TheVariants.{Fetch}
-use Rattle.dt_walk.specs.declared.arguments.WalkAnswer.{WalkAnswer}
 use Rattle.dt_walk.specs.declared.arguments.WalkAnswer.TheVariants.{Page}
-use Rattle.dt_checks.specs.declared.starting.Started.{Started}
 use Rattle.dt_checks.specs.Addresses.{address_answer}
 use Rattle.dt_checks.specs.Fetching.{first_half, half_answer, half_check, rest_check, second_half}
 use Rattle.dt_checks.specs.Laws.{SameAddresses, SameFetches, SameHalves, SameStarts}

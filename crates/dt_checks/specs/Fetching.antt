@@ -1,4 +1,4 @@
-use Rattle.std.specs.Prelude.{ℕ, ◌+◌, ◌/◌, ◌%◌, ◌^◌, ◌≤◌, ◌==◌, Bool, not, ◌||◌, if◌then◌else◌, List, Result, Ok, Err, Option, Some, None}
+use Rattle.std.specs.Prelude.{ℕ, ◌/◌, ◌%◌, ◌^◌, ◌≤◌, ◌==◌, Bool, not, ◌||◌, if◌then◌else◌, List, Result, Ok, Err, Option, Some, None}
 use Rattle.dt_alu.specs.Words.{sum_of}
 use Rattle.dt_record.specs.declared.reasons.Reason.TheVariants.{Fetch as NotFetched}
 use Rattle.dt_record.specs.declared.writes.Write.{Write}

@@ -3,7 +3,6 @@ use Rattle.dt_record.specs.declared.reasons.Reason.TheVariants.{Pc}
 use Rattle.dt_record.specs.declared.writes.Write.{Write}
 use Rattle.dt_rules.specs.declared.misfits.Misfit.{Misfit}
 use Rattle.dt_rules.specs.Checks.{and_then, check, misfit}
-use Rattle.dt_step.specs.declared.plans.Planned.{Planned}
 use Rattle.dt_step.specs.declared.state.Arch.{Arch}
 use Rattle.dt_checks.specs.declared.fetching.FetchSpans.{FetchSpans}
 use Rattle.dt_checks.specs.declared.starting.Started.{Started}

@@ -1,5 +1,4 @@
 use Rattle.std.proofs.Common.{sym, ◌∙◌, ap}
-use Rattle.dt_step.specs.Plans.{plan_of}
 use Rattle.dt_checks.specs.Retiring.{plan_check}
 use Rattle.dt_checks.proofs.Retired.{IsRetired-passed}
 use Rattle.dt_checks.proofs.retiring.retires.Goals as goal
