@@ -10,7 +10,8 @@ use Rattle.dt_record.specs.declared.records.Body.TheVariants.{Atomic, Drain}
 use Rattle.dt_record.specs.declared.records.Record.{Record}
 use Rattle.dt_record.specs.declared.writes.Write.{Write}
 use Rattle.dt_record.specs.Writes.{body_write, write_of_record}
-use Rattle.dt_hart.specs.OwnWrites.{own_writes_from, are_rising, GoesOn}
+use Rattle.dt_writes.specs.OwnWrites.{own_writes_from}
+use Rattle.dt_hart.specs.OwnWrites.{are_rising, GoesOn}
 use Rattle.dt_hart.specs.Settings.{Setting, stamp_from}
 use Rattle.dt_hart.proofs.Members.{Contains-filter, Contains-from_filter, Contains-option, option_contains, list_all-at, slice_get-append_seam}
 
