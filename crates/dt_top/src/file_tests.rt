@@ -122,7 +122,8 @@ fn a_malformed_file_has_its_offset(rt: HostRuntime) -> Result<(), Fail> {
         )?;
     }
     let mut falling = Vec::from_slice(rt.alloc(), &one[..one.len().min(46)])?;
-    falling.extend_from_slice(&changed(rt.alloc(), &one, 18, 0)?[16.min(one.len())..])?;
+    let second = changed(rt.alloc(), &one, 18, 0)?;
+    falling.extend_from_slice(&second[second.len().min(16)..])?;
     expect_malformed(&rt, &falling, 1, 46)?;
     // A number with a byte too many, and another count.
     let mut padded = changed(rt.alloc(), &two, 29, 0x85)?;
@@ -166,42 +167,25 @@ fn a_fault_stops_a_dump_and_a_conversion(rt: HostRuntime) -> Result<(), Fail> {
     Ok(())
 }
 
-/// A record of hart 7 of version 1, all ones but for some fields: tag, length, and the fields with
-/// their places.
-type Shape = (u8, usize, &'static [(usize, &'static [u8])]);
-
-/// The last line of RAM.
-const LAST_LINE: &[u8] = &[0xc0, 0xff, 0xff, 0x83, 0, 0, 0, 0];
-
-const SHAPES: [Shape; 11] = [
-    (1, 30, &[]),
-    (2, 38, &[(18, &[0, 0, 0, 0])]),
-    (3, 266, &[]),
-    (4, 147, &[(10, &[3])]),
-    (5, 46, &[]),
-    (6, 38, &[]),
-    (7, 48, &[(30, &[0xf8, 0xff, 0xff, 0x83, 0, 0, 0, 0, 8, 1])]),
-    (
-        7,
-        48,
-        &[
-            (30, &[0xfc, 0xff, 0xff, 0x83, 0, 0, 0, 0, 4, 1]),
-            (44, &[0, 0, 0, 0]),
-        ],
-    ),
-    (8, 92, &[(10, LAST_LINE)]),
-    (9, 82, &[(10, LAST_LINE)]),
-    (10, 10, &[]),
-];
-
-fn record_of(alloc: Global, shape: &Shape) -> Result<Vec<u8>, AllocError> {
-    let mut bytes = vec![in alloc; 0xff; shape.1]?;
-    for (place, field) in [(0, [shape.0, 7].as_slice())].iter().chain(shape.2.iter()) {
-        for (at, byte) in field.iter().enumerate() {
-            if let Some(there) = bytes.get_mut(place.saturating_add(at)) {
-                *there = *byte;
-            }
+/// Puts the bytes at a place.
+fn put(bytes: &mut [u8], place: usize, field: &[u8]) {
+    for (at, byte) in field.iter().enumerate() {
+        if let Some(there) = bytes.get_mut(place.saturating_add(at)) {
+            *there = *byte;
         }
+    }
+}
+
+/// A record of hart 7 of version 1 in which each number is as great as it can be.
+fn greatest(alloc: Global, tag: u8, len: usize) -> Result<Vec<u8>, AllocError> {
+    let mut bytes = vec![in alloc; 0xff; len]?;
+    put(&mut bytes, 0, &[tag, 7]);
+    match tag {
+        2 => put(&mut bytes, 18, &[0, 0, 0, 0]),
+        4 => put(&mut bytes, 10, &[3]),
+        7 => put(&mut bytes, 30, &[0xf8, 0xff, 0xff, 0x83, 0, 0, 0, 0, 8, 1]),
+        8 | 9 => put(&mut bytes, 10, &[0xc0, 0xff, 0xff, 0x83, 0, 0, 0, 0]),
+        _ => {}
     }
     Ok(bytes)
 }
@@ -209,9 +193,25 @@ fn record_of(alloc: Global, shape: &Shape) -> Result<Vec<u8>, AllocError> {
 #[test]
 fn the_greatest_numbers_convert_and_convert_back(rt: HostRuntime) -> Result<(), Fail> {
     let mut file = Vec::from_slice(rt.alloc(), b"SMPDIFF\0\x01\0\x08\x01\0\0\0\0")?;
-    for shape in &SHAPES {
-        file.extend_from_slice(&record_of(rt.alloc(), shape)?)?;
+    for (tag, len) in [
+        (1, 30),
+        (2, 38),
+        (3, 266),
+        (4, 147),
+        (5, 46),
+        (6, 38),
+        (7, 48),
+        (8, 92),
+        (9, 82),
+        (10, 10),
+    ] {
+        file.extend_from_slice(&greatest(rt.alloc(), tag, len)?)?;
     }
+    // An atomic of four bytes at the end of RAM.
+    let mut narrow = greatest(rt.alloc(), 7, 48)?;
+    put(&mut narrow, 30, &[0xfc, 0xff, 0xff, 0x83, 0, 0, 0, 0, 4]);
+    put(&mut narrow, 44, &[0, 0, 0, 0]);
+    file.extend_from_slice(&narrow)?;
     file.extend_from_slice(&[255, 11, 0, 0, 0, 0, 0, 0, 0])?;
     let outside = Outside { room: 2000, ..CALM };
     let (status, short) = run(rt.alloc(), TO_2, &[], &file, outside)?;
@@ -219,8 +219,5 @@ fn the_greatest_numbers_convert_and_convert_back(rt: HostRuntime) -> Result<(), 
     let (status, back) = run(rt.alloc(), TO_1, &[], &short, outside)?;
     assert_eq!(rt; status, 0);
     assert_eq!(rt; back, file);
-    let (status, again) = run(rt.alloc(), TO_2, &[], &short, outside)?;
-    assert_eq!(rt; status, 0);
-    assert_eq!(rt; again, short);
     Ok(())
 }

@@ -8,6 +8,8 @@ mod file_tests;
 mod harts;
 mod instructions;
 mod judgement;
+#[cfg(test)]
+mod limit_tests;
 mod reader;
 mod replies;
 mod report;
