@@ -5,27 +5,27 @@ use Rattle.dt_source.specs.Known.{Appends}
 use Rattle.dt_record.specs.declared.streams.Next.{Next}
 use Rattle.dt_record.specs.declared.streams.Next.TheVariants.{Header, Event, End, Malformed, Limit, ReadFault, OutOfMemory}
 use Rattle.dt_record.specs.Spelling.{Version}
-use Rattle.dt_dump.specs.Dump.{end_of, last_line, last_status, dump_status, memory_line, AppendsPart}
+use Rattle.dt_dump.specs.Dump.{end_of, last_line, last_status, stream_status, memory_line, AppendsPart}
 use Rattle.dt_dump.proofs.Underway.{told_map}
 use Rattle.dt_convert.specs.Convert.{file_with, ending_bytes, converted, MayConvert}
 use Rattle.dt_convert.specs.Reading.{IsFileOf, StopsAt}
 
 -- what all answers have where they end so
 pub whole_answer : (version : Version) (answers : List Next) (last : Next) → end_of answers ≡ Some last
-    → (converted version answers ≡ ending_bytes (file_with version answers) last) × (dump_status answers ≡ last_status last)
+    → (converted version answers ≡ ending_bytes (file_with version answers) last) × (stream_status answers ≡ last_status last)
 whole_answer version answers last ending = (
   ap (λ (o : Option Next). option_map_or (ending_bytes (file_with version answers)) o []) ending,
   ap (λ (o : Option Next). option_map_or last_status o 0) ending,
 )
 
 whole_file : (version : Version) (answers : List Next) (bytes : List ℕ) → IsFileOf version answers bytes
-    → (converted version answers ≡ bytes) × (dump_status answers ≡ 0)
+    → (converted version answers ≡ bytes) × (stream_status answers ≡ 0)
 whole_file version answers bytes h =
     let whole = whole_answer version answers (End h.0) h.1 in
     (whole.0 ∙ sym h.2, whole.1)
 
 whole_line : (version : Version) (answers : List Next) (last : Next) → last ≢ ReadFault → last ≢ OutOfMemory → StopsAt answers last
-    → (converted version answers ≡ last_line last) × (dump_status answers ≡ last_status last)
+    → (converted version answers ≡ last_line last) × (stream_status answers ≡ last_status last)
 whole_line version answers (Header harts wide) read memory h = absurd h
 whole_line version answers (Event r) read memory h = absurd h
 whole_line version answers (End count) read memory h = absurd h
@@ -38,15 +38,15 @@ whole_line version answers OutOfMemory read memory h = absurd (memory refl)
 
 pub file_comes : (told : Option (List Next)) (version : Version) (bytes : List ℕ) (before after : Option (List ℕ)) (status : ℕ)
     → IfSome told (λ answers. IsFileOf version answers bytes) → status ≡ 0 → Appends before bytes after
-    → IfSome told (λ answers. (status ≡ dump_status answers) × Appends before (converted version answers) after)
-file_comes told version bytes before after status came zero written = told_map told (λ answers. IsFileOf version answers bytes) (λ answers. (status ≡ dump_status answers) × Appends before (converted version answers) after) came (λ answers h.
+    → IfSome told (λ answers. (status ≡ stream_status answers) × Appends before (converted version answers) after)
+file_comes told version bytes before after status came zero written = told_map told (λ answers. IsFileOf version answers bytes) (λ answers. (status ≡ stream_status answers) × Appends before (converted version answers) after) came (λ answers h.
     let whole = whole_file version answers bytes h in
     (zero ∙ sym whole.1, subst (λ (z : List ℕ). Appends before z after) (sym whole.0) written))
 
 pub line_comes : (told : Option (List Next)) (version : Version) (last : Next) (before after : Option (List ℕ)) (status : ℕ) → last ≢ ReadFault → last ≢ OutOfMemory
     → IfSome told (λ answers. StopsAt answers last) → status ≡ last_status last → Appends before (last_line last) after
-    → IfSome told (λ answers. (status ≡ dump_status answers) × Appends before (converted version answers) after)
-line_comes told version last before after status read memory came is written = told_map told (λ answers. StopsAt answers last) (λ answers. (status ≡ dump_status answers) × Appends before (converted version answers) after) came (λ answers h.
+    → IfSome told (λ answers. (status ≡ stream_status answers) × Appends before (converted version answers) after)
+line_comes told version last before after status read memory came is written = told_map told (λ answers. StopsAt answers last) (λ answers. (status ≡ stream_status answers) × Appends before (converted version answers) after) came (λ answers h.
     let whole = whole_line version answers last read memory h in
     (is ∙ sym whole.1, subst (λ (z : List ℕ). Appends before z after) (sym whole.0) written))
 

@@ -2,20 +2,25 @@ ghost use Rattle.std.specs.Prelude.{◌≡◌, ◌≢◌, ◌≤◌, ◌⊎◌, 
 ghost use Rattle.dt_source.specs.Faults.{Rose};
 ghost use Rattle.dt_source.specs.Known.{Appends};
 ghost use Rattle.dt_record.specs.Streams.{IsFresh};
-ghost use Rattle.dt_dump.specs.Dump.{AppendsPart, dump_status, last_status, memory_line, read_fault_line};
+ghost use Rattle.dt_dump.specs.Dump.{AppendsPart, stream_status, last_status, memory_line, read_fault_line};
 ghost use Rattle.dt_convert.specs.Convert.{MayConvert, converted, version_of};
 ghost use Rattle.dt_convert.specs.Reading.{IsFileOf, StopsAt};
 
 use crate::pieces::{put_end, put_header, put_record};
 use crate::versions::FileVersion;
 use dt_dump::{WRITE_FAULT, put_last};
-use dt_record::{Next, Probes};
+use dt_probe_file::LentProbes;
+use dt_record::Next;
 use dt_source::{Failed, Sink, write_all};
 use std::alloc::Global;
 
 /// The bytes of the file of a stream that comes to its end; else the answer that it stopped at.
 /// Where memory was refused, it gives that in its place.
-fn file_of<P: Probes>(alloc: Global, version: FileVersion, probes: &mut P) -> Result<Vec<u8>, Next>
+fn file_of<P: LentProbes>(
+    alloc: Global,
+    version: FileVersion,
+    probes: &mut P,
+) -> Result<Vec<u8>, Next>
     requires { IsFresh (P.progress probes.old) }
     ensures file { IfOk result (λ bytes. IfSome (P.left probes.old)
         (λ answers. IsFileOf (version_of version) answers bytes.items)) }
@@ -24,11 +29,12 @@ fn file_of<P: Probes>(alloc: Global, version: FileVersion, probes: &mut P) -> Re
     ensures stopped_ended { IfErr result (λ last. last ≢ Next.OutOfMemory → (P.progress probes.new).ended ≡ Some last) }
     ensures read_fault { IfErr result (λ last. last ≡ Next.ReadFault → Rose (P.faults probes.old) (P.faults probes.new)) }
     ensures never_falls { P.faults probes.old ≤ P.faults probes.new }
+    ensures same_lent { P.lent probes.new ≡ P.lent probes.old }
 {
     let mut bytes = Vec::new(alloc);
     let mut stamps = [0; 8];
     loop {
-        match probes.next() {
+        match probes.answer() {
             Next::Header { harts, wide } => {
                 match put_header(version, harts, wide, &mut bytes) {
                     Ok(()) => {}
@@ -69,7 +75,7 @@ fn put_file<O: Sink>(bytes: &[u8], out: &mut O) -> u8
 /// no memory, 8 there is too much of something.
 ///
 /// It keeps the bytes of the whole file.
-pub fn convert_probes<P: Probes, O: Sink>(
+pub fn convert_probes<P: LentProbes, O: Sink>(
     alloc: Global,
     to: FileVersion,
     probes: &mut P,
@@ -79,12 +85,12 @@ pub fn convert_probes<P: Probes, O: Sink>(
     // Whatever failed: another status than those of a fault or of want of memory comes with the
     // bytes that all answers have.
     ensures whole { result ≢ 5 → result ≢ 6 → result ≢ 7 → IfSome (P.left probes.old) (λ answers.
-        (result ≡ dump_status answers) × Appends (O.written out.old) (converted (version_of to) answers) (O.written out.new)) }
+        (result ≡ stream_status answers) × Appends (O.written out.old) (converted (version_of to) answers) (O.written out.new)) }
 
     // Where nothing failed and memory was not refused, those bytes come.
     ensures calm { (Rose (P.faults probes.old) (P.faults probes.new) → ⊥)
         → (Rose (O.faults out.old) (O.faults out.new) → ⊥) → result ≢ 7 → IfSome (P.left probes.old) (λ answers.
-        (result ≡ dump_status answers) × Appends (O.written out.old) (converted (version_of to) answers) (O.written out.new)) }
+        (result ≡ stream_status answers) × Appends (O.written out.old) (converted (version_of to) answers) (O.written out.new)) }
 
     // The stream is read to its end, also where it does not tell its answers.
     ensures ended { result ≢ 6 → result ≢ 7
@@ -102,6 +108,7 @@ pub fn convert_probes<P: Probes, O: Sink>(
 
     ensures probes_never_falls { P.faults probes.old ≤ P.faults probes.new }
     ensures out_never_falls { O.faults out.old ≤ O.faults out.new }
+    ensures same_lent { P.lent probes.new ≡ P.lent probes.old }
 {
     match file_of(alloc, to, probes) {
         Ok(bytes) => put_file(&bytes, out),

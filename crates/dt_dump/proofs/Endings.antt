@@ -7,7 +7,7 @@ use Rattle.dt_source.proofs.Steps.{Appends-append}
 use Rattle.dt_record.specs.declared.records.Record.{Record}
 use Rattle.dt_record.specs.declared.streams.Next.{Next}
 use Rattle.dt_record.specs.declared.streams.Next.TheVariants.{Header, Event, End, Malformed, Limit, ReadFault, OutOfMemory}
-use Rattle.dt_dump.specs.Dump.{record_lines, records_in, end_of, last_line, last_status, dump_text, dump_status, memory_line, BeginsWith, IsCutShort, MayDump, AppendsPart}
+use Rattle.dt_dump.specs.Dump.{record_lines, records_in, end_of, last_line, last_status, dump_text, stream_status, memory_line, BeginsWith, IsCutShort, MayDump, AppendsPart}
 use Rattle.dt_dump.specs.Reading.{CameTo}
 use Rattle.dt_dump.proofs.Texts.{part_last}
 use Rattle.dt_dump.proofs.Underway.{told_map}
@@ -28,7 +28,7 @@ cut_short told given last line came = (given, told_map told (λ answers. CameTo 
 
 -- the whole text of answers that end with this one
 whole_text : (answers : List Next) (given : List Record) (last : Next) → records_in answers ≡ given → end_of answers ≡ Some last
-    → (dump_text answers ≡ record_lines given ++ last_line last) × (dump_status answers ≡ last_status last)
+    → (dump_text answers ≡ record_lines given ++ last_line last) × (stream_status answers ≡ last_status last)
 whole_text answers given last records ending = (
   ap₂ (λ (rs : List Record) (o : Option Next). record_lines rs ++ option_map_or last_line o []) records ending,
   ap (λ (o : Option Next). option_map_or last_status o 0) ending,
@@ -36,7 +36,7 @@ whole_text answers given last records ending = (
 
 -- an answer that ends all answers, and is no stream giving up
 is_whole : (answers : List Next) (given : List Record) (last : Next) → last ≢ ReadFault → last ≢ OutOfMemory → CameTo answers given last
-    → (dump_text answers ≡ record_lines given ++ last_line last) × (dump_status answers ≡ last_status last)
+    → (dump_text answers ≡ record_lines given ++ last_line last) × (stream_status answers ≡ last_status last)
 is_whole answers given (Header harts wide) read memory h = absurd h
 is_whole answers given (Event r) read memory h = absurd h
 is_whole answers given (End count) read memory h = whole_text answers given (End count) h.0 h.1
@@ -47,8 +47,8 @@ is_whole answers given OutOfMemory read memory h = absurd (memory refl)
 
 pub comes_whole : (told : Option (List Next)) (before middle after : Option (List ℕ)) (given : List Record) (last : Next) (status : ℕ) → last ≢ ReadFault → last ≢ OutOfMemory
     → IfSome told (λ answers. CameTo answers given last) → Appends before (record_lines given) middle → status ≡ last_status last → Appends middle (last_line last) after
-    → IfSome told (λ answers. (status ≡ dump_status answers) × Appends before (dump_text answers) after)
-comes_whole told before middle after given last status read memory came first is line = told_map told (λ answers. CameTo answers given last) (λ answers. (status ≡ dump_status answers) × Appends before (dump_text answers) after) came (λ answers h.
+    → IfSome told (λ answers. (status ≡ stream_status answers) × Appends before (dump_text answers) after)
+comes_whole told before middle after given last status read memory came first is line = told_map told (λ answers. CameTo answers given last) (λ answers. (status ≡ stream_status answers) × Appends before (dump_text answers) after) came (λ answers h.
     let whole = is_whole answers given last read memory h in (
       is ∙ sym whole.1,
       subst (λ (z : List ℕ). Appends before z after) (sym whole.0) (Appends-append before middle after _ _ first line),

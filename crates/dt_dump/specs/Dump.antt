@@ -81,8 +81,8 @@ last_status OutOfMemory = 7
 abbrev pub dump_text : List Next → List ℕ
 dump_text answers = record_lines (records_in answers) ++ option_map_or last_line (end_of answers) []
 
-abbrev pub dump_status : List Next → ℕ
-dump_status answers = option_map_or last_status (end_of answers) 0
+abbrev pub stream_status : List Next → ℕ
+stream_status answers = option_map_or last_status (end_of answers) 0
 
 -- the first records of the answers are these
 abbrev pub BeginsWith : List Next → List Record → Type 0

@@ -3,17 +3,18 @@ ghost use Rattle.dt_source.specs.Faults.{Rose};
 ghost use Rattle.dt_source.specs.Known.{Appends};
 ghost use Rattle.dt_record.specs.declared.records.Record.{Record};
 ghost use Rattle.dt_record.specs.Streams.{IsFresh};
-ghost use Rattle.dt_dump.specs.Dump.{AppendsPart, IsCutShort, MayDump, dump_status, dump_text, last_status, memory_line, read_fault_line, record_lines};
+ghost use Rattle.dt_dump.specs.Dump.{AppendsPart, IsCutShort, MayDump, stream_status, dump_text, last_status, memory_line, read_fault_line, record_lines};
 ghost use Rattle.dt_dump.specs.Reading.{CameTo};
 
 use crate::lines::{Stop, WRITE_FAULT, put_last, put_record};
-use dt_record::{Next, Probes};
+use dt_probe_file::LentProbes;
+use dt_record::Next;
 use dt_source::{Failed, Sink};
 use std::alloc::Global;
 
 /// Writes the lines of the records of a stream up to the first answer that is no record, and gives
 /// that answer. Where memory was refused, it gives that in its place.
-fn put_records<P: Probes, O: Sink>(
+fn put_records<P: LentProbes, O: Sink>(
     alloc: Global,
     probes: &mut P,
     out: &mut O,
@@ -30,10 +31,11 @@ fn put_records<P: Probes, O: Sink>(
         × AppendsPart (O.written out.old) text (O.written out.new)) }
     ensures probes_never_falls { P.faults probes.old ≤ P.faults probes.new }
     ensures out_never_falls { O.faults out.old ≤ O.faults out.new }
+    ensures same_lent { P.lent probes.new ≡ P.lent probes.old }
 {
     let mut counts = [0; 8];
     loop {
-        match probes.next() {
+        match probes.answer() {
             Next::Header { .. } => {}
             Next::Event(event) => match put_record(alloc, &event, &mut counts, out) {
                 Ok(()) => {}
@@ -52,17 +54,17 @@ fn put_records<P: Probes, O: Sink>(
 /// no memory, 8 there is too much of something.
 ///
 /// It keeps one record at a time.
-pub fn dump_probes<P: Probes, O: Sink>(alloc: Global, probes: &mut P, out: &mut O) -> u8
+pub fn dump_probes<P: LentProbes, O: Sink>(alloc: Global, probes: &mut P, out: &mut O) -> u8
     requires { IsFresh (P.progress probes.old) }
     // Whatever failed: another status than those of a fault or of want of memory comes with the
     // text that all answers have.
     ensures whole { result ≢ 5 → result ≢ 6 → result ≢ 7 → IfSome (P.left probes.old) (λ answers.
-        (result ≡ dump_status answers) × Appends (O.written out.old) (dump_text answers) (O.written out.new)) }
+        (result ≡ stream_status answers) × Appends (O.written out.old) (dump_text answers) (O.written out.new)) }
 
     // Where nothing failed and memory was not refused, that text comes.
     ensures calm { (Rose (P.faults probes.old) (P.faults probes.new) → ⊥)
         → (Rose (O.faults out.old) (O.faults out.new) → ⊥) → result ≢ 7 → IfSome (P.left probes.old) (λ answers.
-        (result ≡ dump_status answers) × Appends (O.written out.old) (dump_text answers) (O.written out.new)) }
+        (result ≡ stream_status answers) × Appends (O.written out.old) (dump_text answers) (O.written out.new)) }
 
     // The stream is read to its end, also where it does not tell its answers.
     ensures ended { result ≢ 6 → result ≢ 7
@@ -82,6 +84,7 @@ pub fn dump_probes<P: Probes, O: Sink>(alloc: Global, probes: &mut P, out: &mut 
 
     ensures probes_never_falls { P.faults probes.old ≤ P.faults probes.new }
     ensures out_never_falls { O.faults out.old ≤ O.faults out.new }
+    ensures same_lent { P.lent probes.new ≡ P.lent probes.old }
 {
     match put_records(alloc, probes, out) {
         Ok(last) => put_last(alloc, &last, out),

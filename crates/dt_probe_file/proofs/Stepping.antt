@@ -133,6 +133,6 @@ takes_header o harts wide v some few is harts_are wide_is = record {
 }
 
 -- a new stream tells the answers of all bytes
-pub told_fresh : (left : Option (List ℕ)) (held : List ℕ) → held ≡ [] → AreToldOf left (option_map (answers_left None) (whole held left))
-told_fresh None held is = refl
-told_fresh (Some bytes) held is = (answers_of (held ++ bytes), refl, subst (λ (h : List ℕ). AreAnswers bytes (answers_of (h ++ bytes))) (sym is) (of_are bytes))
+pub told_fresh : (left : Option (List ℕ)) (told : Option (List Next)) → told ≡ option_map answers_of left → AreToldOf left told
+told_fresh None told is = is
+told_fresh (Some bytes) told is = (answers_of bytes, is, of_are bytes)

@@ -46,6 +46,7 @@ pub(crate) fn hear<S: Source>(source: &mut S, held: &mut Held) -> Heard
     ensures heard { IsHeard held.new (S.left source.new) result }
     ensures fault { result ≡ Heard.Failed → Rose (S.faults source.old) (S.faults source.new) }
     ensures never_falls { S.faults source.old ≤ S.faults source.new }
+    ensures same_lent { S.lent source.new ≡ S.lent source.old }
 {
     loop {
         let begun = match heading_of(held.bytes()) {
@@ -78,6 +79,7 @@ pub(crate) fn find<S: Source>(source: &mut S, held: &mut Held, opened: &Opened) 
     ensures found { IsFound (reading_of opened.now) held.new (S.left source.new) result }
     ensures fault { result ≡ Found.Failed → Rose (S.faults source.old) (S.faults source.new) }
     ensures never_falls { S.faults source.old ≤ S.faults source.new }
+    ensures same_lent { S.lent source.new ≡ S.lent source.old }
 {
     loop {
         match front_of(opened, held.bytes()) {

@@ -77,6 +77,7 @@ fn read_on<S: Source>(
     ensures end { result ≡ Ok false → (part start.new end.new bytes.new ≡ part start.old end.old bytes.old) × IfSome (S.left source.new) (λ rest. rest ≡ []) }
     ensures failed_only { OnErr result (Rose (S.faults source.old) (S.faults source.new)) }
     ensures never_falls { S.faults source.old ≤ S.faults source.new }
+    ensures same_lent { S.lent source.new ≡ S.lent source.old }
 {
     let (first, last) = make_room(bytes, *start, *end);
     *start = first;
@@ -120,6 +121,7 @@ impl Held {
         ensures end { result ≡ Ok false → (self.new ≡ self.old) × IfSome (S.left source.new) (λ rest. rest ≡ []) }
         ensures failed_only { OnErr result (Rose (S.faults source.old) (S.faults source.new)) }
         ensures never_falls { S.faults source.old ≤ S.faults source.new }
+        ensures same_lent { S.lent source.new ≡ S.lent source.old }
     {
         read_on(source, &mut self.bytes, &mut self.start, &mut self.end)
     }

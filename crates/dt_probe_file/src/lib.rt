@@ -6,6 +6,7 @@ mod fronts;
 mod headers;
 mod holding;
 mod laws;
+mod lending;
 mod probes;
 mod reading;
 mod steps;
@@ -13,4 +14,5 @@ mod steps;
 mod tests;
 
 pub use laws::{file_answers, one_list};
-pub use probes::FileProbes;
+pub use lending::LentProbes;
+pub use probes::{FileProbes, Room};

@@ -1,12 +1,13 @@
-ghost use Rattle.std.specs.Prelude.{◌≡◌, ◌≤◌, ◌↔◌, None, IfOk, IsTrue, IsSome, IsNone};
+ghost use Rattle.std.specs.Prelude.{◌≡◌, ◌≤◌, ◌↔◌, None, [], option_map, IfOk, IsTrue, IsSome, IsNone};
 ghost use Rattle.std.specs.Option.{ForSome};
 ghost use Rattle.dt_record.specs.Streams.{Continues, TakesAnswer, Rose, IsFresh};
 ghost use Rattle.dt_record.specs.declared.streams.Next.{Next};
 ghost use Rattle.dt_probe_file.specs.Fronts.{IsSound};
 ghost use Rattle.dt_probe_file.specs.Parts.{whole};
-ghost use Rattle.dt_probe_file.specs.Told.{AreToldOf, ended_by, left_of, progress_of};
+ghost use Rattle.dt_probe_file.specs.Told.{AreToldOf, answers_of, ended_by, left_of, progress_of};
 
 use crate::holding::Held;
+use crate::lending::LentProbes;
 use crate::reading::Opened;
 use crate::steps::{step_behind, step_header};
 use dt_record::{Next, Probes};
@@ -36,20 +37,55 @@ fn last_answer(answer: &Next) -> Option<Next>
     }
 }
 
+/// The memory of a stream that has no source yet.
+#[derive(Debug, Drop)]
+pub struct Room {
+    held: Held,
+    ghost empty: { held ≡ [] },
+}
+
+impl Room {
+    pub fn new(alloc: Global) -> Result<Room, AllocError> {
+        let held = Held::new(alloc)?;
+        Ok(Room { held })
+    }
+}
+
 impl<S: Source + Drop> FileProbes<S> {
     /// A stream over the whole of what the source has left.
     pub fn new(alloc: Global, source: S) -> Result<FileProbes<S>, AllocError>
         ensures fresh { IfOk result (λ probes. IsFresh (⟦<FileProbes<S> as Probes>⟧.progress probes)) }
         ensures told { IfOk result (λ probes. AreToldOf (S.left source) (⟦<FileProbes<S> as Probes>⟧.left probes)) }
         ensures faults { IfOk result (λ probes. ⟦<FileProbes<S> as Probes>⟧.faults probes ≡ S.faults source) }
+        ensures same_lent { IfOk result (λ probes. ⟦<FileProbes<S> as LentProbes>⟧.lent probes ≡ S.lent source) }
     {
-        let held = Held::new(alloc)?;
-        Ok(FileProbes {
+        let room = Room::new(alloc)?;
+        Ok(FileProbes::within(room, source))
+    }
+
+    /// A stream over the whole of what the source has left, in memory that is there: nothing can be
+    /// refused once the source is given away.
+    pub fn within(room: Room, source: S) -> FileProbes<S>
+        ensures fresh { IsFresh (⟦<FileProbes<S> as Probes>⟧.progress result) }
+        ensures told { ⟦<FileProbes<S> as Probes>⟧.left result ≡ option_map answers_of (S.left source) }
+        ensures faults { ⟦<FileProbes<S> as Probes>⟧.faults result ≡ S.faults source }
+        ensures same_lent { ⟦<FileProbes<S> as LentProbes>⟧.lent result ≡ S.lent source }
+    {
+        FileProbes {
             source,
-            held,
+            held: room.held,
             opened: None,
             ended: None,
-        })
+        }
+    }
+
+    /// The source, of which more bytes may be read than were answered. Who lent it and then takes it
+    /// back knows what became of it.
+    pub fn into_source(self) -> S
+        ensures faults { S.faults result ≡ ⟦<FileProbes<S> as Probes>⟧.faults self }
+        ensures same_lent { S.lent result ≡ ⟦<FileProbes<S> as LentProbes>⟧.lent self }
+    {
+        self.source
     }
 }
 
@@ -65,6 +101,14 @@ impl<S: Source> Probes for FileProbes<S> {
     }
 
     fn next(&mut self) -> Next {
+        self.answer()
+    }
+}
+
+impl<S: Source> LentProbes for FileProbes<S> {
+    ghost lent = { λ p. S.lent p.source };
+
+    fn answer(&mut self) -> Next {
         let step = match &self.opened {
             None => step_header(&mut self.source, &mut self.held),
             Some(opened) => step_behind(&mut self.source, &mut self.held, opened),

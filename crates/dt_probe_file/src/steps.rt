@@ -55,6 +55,7 @@ fn is_more<S: Source>(source: &mut S, held: &mut Held) -> Result<bool, Failed>
     ensures none { result ≡ Ok false → (held.new ≡ []) × IfSome (S.left source.new) (λ rest. rest ≡ []) }
     ensures fault { OnErr result (Rose (S.faults source.old) (S.faults source.new)) }
     ensures never_falls { S.faults source.old ≤ S.faults source.new }
+    ensures same_lent { S.lent source.new ≡ S.lent source.old }
 {
     if held.bytes().is_empty() {
         held.read(source)
@@ -72,6 +73,7 @@ fn step_end<S: Source>(source: &mut S, held: &mut Held, opened: &Opened) -> Step
     ensures sound { IfSome result.opened IsSound }
     ensures fault { result.answer ≡ Next.ReadFault → Rose (S.faults source.old) (S.faults source.new) }
     ensures never_falls { S.faults source.old ≤ S.faults source.new }
+    ensures same_lent { S.lent source.new ≡ S.lent source.old }
 {
     held.take_away(END_LEN);
     match is_more(source, held) {
@@ -102,6 +104,7 @@ pub(crate) fn step_behind<S: Source>(source: &mut S, held: &mut Held, opened: &O
     ensures sound { IfSome result.opened IsSound }
     ensures fault { result.answer ≡ Next.ReadFault → Rose (S.faults source.old) (S.faults source.new) }
     ensures never_falls { S.faults source.old ≤ S.faults source.new }
+    ensures same_lent { S.lent source.new ≡ S.lent source.old }
 {
     match find(source, held, opened) {
         Found::Event { event, len } => step_over(held, opened, &event, len),
@@ -124,6 +127,7 @@ pub(crate) fn step_header<S: Source>(source: &mut S, held: &mut Held) -> Step
     ensures sound { IfSome result.opened IsSound }
     ensures fault { result.answer ≡ Next.ReadFault → Rose (S.faults source.old) (S.faults source.new) }
     ensures never_falls { S.faults source.old ≤ S.faults source.new }
+    ensures same_lent { S.lent source.new ≡ S.lent source.old }
 {
     match hear(source, held) {
         Heard::Whole {

@@ -4,6 +4,7 @@
 #![tactic(auto)]
 
 mod counts;
+mod lending;
 mod memory;
 mod system;
 #[cfg(test)]

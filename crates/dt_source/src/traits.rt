@@ -1,4 +1,5 @@
-ghost use Rattle.std.specs.Prelude.{◌≡◌, ◌<◌, ◌≤◌, ℕ, List, [], Option, IfOk, IfSome, OnErr, length, take};
+ghost use Rattle.std.specs.Borrow.{GName};
+ghost use Rattle.std.specs.Prelude.{◌≡◌, ◌<◌, ◌≤◌, ℕ, List, [], Option, None, IfOk, IfSome, OnErr, length, take};
 ghost use Rattle.dt_source.specs.Faults.{Rose};
 ghost use Rattle.dt_source.specs.Known.{TakesFrom, Appends};
 
@@ -14,6 +15,9 @@ pub trait Source {
     // How many faults the source has counted.
     ghost faults: { Self → ℕ };
 
+    // The reference that the source reads through, where it is a lent one.
+    ghost lent: { Self → Option GName } = { λ _. None };
+
     /// Reads the next bytes into the front of the buffer and says how many: 0 only at the end.
     fn read(&mut self, buf: &mut [u8]) -> Result<usize, Failed>
         requires { 0 < length buf.old }
@@ -23,7 +27,8 @@ pub trait Source {
         ensures end { result ≡ Ok 0 → IfSome (left self.new) (λ rest. rest ≡ []) }
         ensures failed_only { OnErr result (Rose (faults self.old) (faults self.new)) }
         ensures failed_takes_nothing { OnErr result (left self.new ≡ left self.old) }
-        ensures never_falls { faults self.old ≤ faults self.new };
+        ensures never_falls { faults self.old ≤ faults self.new }
+        ensures same_lent { lent self.new ≡ lent self.old };
 }
 
 /// Where bytes go.

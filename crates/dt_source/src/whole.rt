@@ -66,6 +66,7 @@ pub fn read_behind<S: Source>(source: &mut S, buf: &mut [u8], at: usize) -> Resu
     ensures failed_only { OnErr result (Rose (S.faults source.old) (S.faults source.new)) }
     ensures failed_takes_nothing { OnErr result (S.left source.new ≡ S.left source.old) }
     ensures never_falls { S.faults source.old ≤ S.faults source.new }
+    ensures same_lent { S.lent source.new ≡ S.lent source.old }
 {
     let (_front, free) = buf.split_at_mut(at);
     source.read(free)

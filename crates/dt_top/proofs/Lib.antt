@@ -1,7 +1,10 @@
 pub mod Answering
 pub mod Counting
 pub mod Fields
+pub mod Filing
 pub mod Lines
+pub mod Replying
 pub mod Runs
 pub mod Stops
+pub mod Tasks
 pub mod WholeFile

@@ -1,7 +1,6 @@
 pub mod Addi
 pub mod Answer
 pub mod Built
-pub mod Command
 pub mod Judgement
 pub mod ReferenceRun
 pub mod Report
@@ -9,3 +8,4 @@ pub mod Tallies
 pub mod Verdict
 pub mod Pieces
 pub mod Replies
+pub mod Running

@@ -3,17 +3,21 @@
 #![tactic(auto)]
 
 mod checks;
-mod commands;
+#[cfg(test)]
+mod file_tests;
 mod harts;
 mod instructions;
 mod judgement;
+#[cfg(test)]
+mod limit_tests;
 mod reader;
 mod replies;
 mod report;
+mod running;
 #[cfg(test)]
 mod tests;
 mod top;
 mod verdicts;
 
-pub use commands::{Command, Task, WordsRefusal, parse_words};
+pub use dt_words::{Command, Task, WordsRefusal, parse_words};
 pub use top::run_plain;

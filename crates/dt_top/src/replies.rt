@@ -1,12 +1,8 @@
-ghost use Rattle.std.specs.Prelude.{◌≡◌, ◌≢◌, ◌≤◌, ℕ, map, IsSome, None};
-ghost use Rattle.std.specs.String.{string_bytes};
+ghost use Rattle.std.specs.Prelude.{◌≡◌, ◌≢◌, ◌≤◌, IfSome};
 ghost use Rattle.dt_source.specs.Faults.{Rose};
-ghost use Rattle.dt_top.specs.Answer.{WhereTold};
-ghost use Rattle.dt_top.specs.Command.{asked_of};
 ghost use Rattle.dt_top.specs.Replies.{answer_by, IsCheckReply};
 
 use crate::checks::check;
-use crate::commands::{Task, WordsRefusal, parse_words};
 use crate::reader::{Stop, read_file};
 use crate::report::report;
 use crate::verdicts::Verdict;
@@ -62,8 +58,8 @@ impl Reply {
 }
 
 /// The reply to an image and a probe file.
-fn check_reply<I: Source, P: Source>(alloc: Global, image: &mut I, probes: &mut P) -> Reply
-    ensures told { WhereTold (I.left image.old) (P.left probes.old) (λ i b. IsCheckReply i b result) }
+pub fn check_reply<I: Source, P: Source>(alloc: Global, image: &mut I, probes: &mut P) -> Reply
+    ensures told { IfSome (I.left image.old) (λ i. IfSome (P.left probes.old) (λ b. IsCheckReply i b result)) }
     ensures no_usage { result ≢ Reply.Usage }
     ensures image_fault { result ≡ Reply.ReadFaultImage → Rose (I.faults image.old) (I.faults image.new) }
     ensures probes_fault { result ≡ Reply.ReadFaultProbes → Rose (P.faults probes.old) (P.faults probes.new) }
@@ -89,29 +85,5 @@ fn check_reply<I: Source, P: Source>(alloc: Global, image: &mut I, probes: &mut 
             text,
         },
         Err(_) => Reply::OutOfMemory,
-    }
-}
-
-/// The reply to words, an image and a probe file.
-pub fn reply_to<I: Source, P: Source>(
-    alloc: Global,
-    words: &[String],
-    image: &mut I,
-    probes: &mut P,
-) -> Reply
-    ensures usage { result ≡ Reply.Usage → asked_of (map string_bytes words.now) ≡ None }
-    ensures command { result ≢ Reply.Usage → result ≢ Reply.OutOfMemory → IsSome (asked_of (map string_bytes words.now)) }
-    ensures told { result ≢ Reply.Usage → WhereTold (I.left image.old) (P.left probes.old) (λ i b. IsCheckReply i b result) }
-    ensures image_fault { result ≡ Reply.ReadFaultImage → Rose (I.faults image.old) (I.faults image.new) }
-    ensures probes_fault { result ≡ Reply.ReadFaultProbes → Rose (P.faults probes.old) (P.faults probes.new) }
-    ensures image_never_falls { I.faults image.old ≤ I.faults image.new }
-    ensures probes_never_falls { P.faults probes.old ≤ P.faults probes.new }
-{
-    match parse_words(alloc, words) {
-        Ok(command) => match command.task {
-            Task::Pass => check_reply(alloc, image, probes),
-        },
-        Err(WordsRefusal::Usage) => Reply::Usage,
-        Err(WordsRefusal::OutOfMemory) => Reply::OutOfMemory,
     }
 }

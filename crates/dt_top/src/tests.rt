@@ -12,23 +12,23 @@ const PASS: &[&str] = &["pass", "IMAGE", "PROBES"];
 const IMAGE: &[u8] = &[0x93, 0x00, 0x50, 0x00];
 
 /// Hart 0 commits it in cycle 1 with the value 5.
-const FILE: &str = "534d504449464600010001000000000001000100000000000000\
+pub(crate) const FILE: &str = "534d504449464600010001000000000001000100000000000000\
     0000008000000000930050000500000000000000ff0100000000000000";
 
 /// How sources and sink behave.
 #[derive(Clone, Copy)]
-struct Outside {
-    piece: usize,
-    image_fails: u64,
-    probes_fail: u64,
-    sink_fails: u64,
-    room: usize,
+pub(crate) struct Outside {
+    pub(crate) piece: usize,
+    pub(crate) image_fails: u64,
+    pub(crate) probes_fail: u64,
+    pub(crate) sink_fails: u64,
+    pub(crate) room: usize,
 }
 
 /// No call has this number.
-const NEVER: u64 = u64::MAX;
+pub(crate) const NEVER: u64 = u64::MAX;
 
-const CALM: Outside = Outside {
+pub(crate) const CALM: Outside = Outside {
     piece: 64,
     image_fails: NEVER,
     probes_fail: NEVER,
@@ -37,7 +37,7 @@ const CALM: Outside = Outside {
 };
 
 /// Runs the program on words, an image and a probe file.
-fn run(
+pub(crate) fn run(
     alloc: Global,
     words: &[&str],
     image: &[u8],
@@ -232,7 +232,7 @@ fn other_words_are_usage(rt: HostRuntime) -> Result<(), Fail> {
         &["pass", "IMAGE", "PROBES", "MORE"],
         &["check", "IMAGE", "PROBES"],
         &["PASS", "IMAGE", "PROBES"],
-        &["pass", "-", "PROBES"],
+        &["pass", "-x", "PROBES"],
         &["pass", "IMAGE", "--sources"],
         &["--sources", "IMAGE", "PROBES"],
     ];

@@ -1,23 +1,26 @@
-ghost use Rattle.std.specs.Prelude.{◌≡◌, ◌≢◌, ◌<◌, ◌≤◌, ◌⊎◌, ◌↔◌, ℕ, List, map, codes, length, take, IsSome, None};
+ghost use Rattle.std.specs.Prelude.{◌≡◌, ◌≢◌, ◌≤◌, ◌⊎◌, ℕ, List, map, IfSome, IsSomeAnd, None};
 ghost use Rattle.std.specs.String.{string_bytes};
 ghost use Rattle.dt_source.specs.Faults.{Rose};
 ghost use Rattle.dt_source.specs.Known.{Appends};
 ghost use Rattle.dt_record.specs.declared.records.Record.{Record};
-ghost use Rattle.dt_top.specs.Answer.{Answer, answer, usage_answer, image_fault_answer, probes_fault_answer, memory_answer, unbuilt_answer, IsAnswer, MayAnswer, WhereTold, AppendsPart};
+ghost use Rattle.dt_dump.specs.Dump.{AppendsPart, memory_line, read_fault_line};
+ghost use Rattle.dt_words.specs.declared.commands.Task.TheVariants.{Pass};
+ghost use Rattle.dt_words.specs.Table.{asked_of};
+ghost use Rattle.dt_top.specs.Answer.{AsksFor, AsksForFile, EndsAtLimit, EndsMalformed, IsAnswer, MayWrite, StopsWith, WhereTold, answer, image_fault_answer, unbuilt_answer, usage_answer};
 ghost use Rattle.dt_top.specs.Built.{IsBuiltInput};
-ghost use Rattle.dt_top.specs.Command.{asked_of};
+ghost use Rattle.dt_top.specs.Running.{Ran};
 
-use crate::replies::reply_to;
-use dt_source::{Failed, Sink, Source, write_all};
+use crate::replies::Reply;
+use crate::running::{put_reply, run_command};
+use dt_source::{Sink, Source};
+use dt_words::{WordsRefusal, parse_words};
 use std::alloc::Global;
-
-/// The exit status where a write failed.
-const WRITE_FAULT: u8 = 6;
 
 /// Does what the words say, on one thread: writes the answer and gives the exit status.
 ///
-/// 0 the check passed, 1 it failed, 2 the words are not in the table, 5 a read failed, 6 a write
-/// failed, 7 there was no memory, 9 the input is not built yet.
+/// 0 the check passed, or the file was written; 1 the check failed; 2 the words are not in the table;
+/// 4 the probe file is malformed; 5 a read failed; 6 a write failed; 7 there was no memory; 8 the
+/// probe file has too many records or writes; 9 the input is not built yet.
 pub fn run_plain<I: Source, P: Source, O: Sink>(
     alloc: Global,
     words: &[String],
@@ -27,43 +30,77 @@ pub fn run_plain<I: Source, P: Source, O: Sink>(
 ) -> u8
     // Whatever failed: another status than those of a fault or of want of memory comes with the
     // answer that the whole input has.
-    ensures answer { result ≢ 5 → result ≢ 6 → result ≢ 7 → WhereTold (I.left image.old) (P.left probes.old)
+    ensures answer { result ≢ 5 → result ≢ 6 → result ≢ 7
+        → WhereTold (asked_of (map string_bytes words.now)) (I.left image.old) (P.left probes.old)
         (λ i b. (text : List ℕ) × Appends (O.written out.old) text (O.written out.new)
-        × IsAnswer (map string_bytes words.now) i b (answer result text)) }
+        × IsAnswer (asked_of (map string_bytes words.now)) i b (answer result text)) }
 
     // Where nothing failed and memory was not refused, the answer comes.
     ensures calm { (Rose (I.faults image.old) (I.faults image.new) → ⊥)
         → (Rose (P.faults probes.old) (P.faults probes.new) → ⊥)
-        → (Rose (O.faults out.old) (O.faults out.new) → ⊥) → result ≢ 7 → WhereTold (I.left image.old) (P.left probes.old)
+        → (Rose (O.faults out.old) (O.faults out.new) → ⊥) → result ≢ 7
+        → WhereTold (asked_of (map string_bytes words.now)) (I.left image.old) (P.left probes.old)
         (λ i b. (text : List ℕ) × Appends (O.written out.old) text (O.written out.new)
-        × IsAnswer (map string_bytes words.now) i b (answer result text)) }
+        × IsAnswer (asked_of (map string_bytes words.now)) i b (answer result text)) }
 
     ensures usage { result ≡ 2 → (asked_of (map string_bytes words.now) ≡ None)
         × Appends (O.written out.old) usage_answer.text (O.written out.new) }
     ensures usage_comes { asked_of (map string_bytes words.now) ≡ None
         → result ≢ 6 → result ≢ 7 → result ≡ 2 }
-    ensures unbuilt { result ≡ 9 → WhereTold (I.left image.old) (P.left probes.old)
-        (λ i b. (records : List Record) → IsBuiltInput i b records → ⊥)
+    ensures malformed { result ≡ 4 → AsksForFile (asked_of (map string_bytes words.now))
+        × IfSome (P.left probes.old) EndsMalformed }
+    ensures malformed_comes { AsksForFile (asked_of (map string_bytes words.now))
+        → IsSomeAnd (P.left probes.old) EndsMalformed → result ≢ 5 → result ≢ 6 → result ≢ 7 → result ≡ 4 }
+    ensures limit { result ≡ 8 → AsksForFile (asked_of (map string_bytes words.now))
+        × IfSome (P.left probes.old) EndsAtLimit }
+    ensures limit_comes { AsksForFile (asked_of (map string_bytes words.now))
+        → IsSomeAnd (P.left probes.old) EndsAtLimit → result ≢ 5 → result ≢ 6 → result ≢ 7 → result ≡ 8 }
+    ensures unbuilt { result ≡ 9 → AsksFor Pass (asked_of (map string_bytes words.now))
+        × IfSome (I.left image.old) (λ i. IfSome (P.left probes.old) (λ b.
+        (records : List Record) → IsBuiltInput i b records → ⊥))
         × Appends (O.written out.old) unbuilt_answer.text (O.written out.new) }
     ensures read_fault { result ≡ 5
-        → (Rose (I.faults image.old) (I.faults image.new) × Appends (O.written out.old) image_fault_answer.text (O.written out.new))
-        ⊎ (Rose (P.faults probes.old) (P.faults probes.new) × Appends (O.written out.old) probes_fault_answer.text (O.written out.new)) }
-    ensures memory { result ≡ 7 → Appends (O.written out.old) memory_answer.text (O.written out.new) }
+        → (Rose (I.faults image.old) (I.faults image.new) × AsksFor Pass (asked_of (map string_bytes words.now))
+        × Appends (O.written out.old) image_fault_answer.text (O.written out.new))
+        ⊎ (Rose (P.faults probes.old) (P.faults probes.new) × (text : List ℕ)
+        × StopsWith read_fault_line (asked_of (map string_bytes words.now)) (P.left probes.old) text
+        × Appends (O.written out.old) text (O.written out.new)) }
+    ensures memory { result ≡ 7 → (text : List ℕ)
+        × StopsWith memory_line (asked_of (map string_bytes words.now)) (P.left probes.old) text
+        × Appends (O.written out.old) text (O.written out.new) }
     ensures write_fault { result ≡ 6 → Rose (O.faults out.old) (O.faults out.new) }
 
     // What is written then is a front of what would have been written.
-    ensures write_fault_front { result ≡ 6 → (a : Answer)
-        × MayAnswer (map string_bytes words.now) (I.left image.old) (P.left probes.old)
-        (Rose (I.faults image.old) (I.faults image.new)) (Rose (P.faults probes.old) (P.faults probes.new)) a
-        × AppendsPart (O.written out.old) a.text (O.written out.new) }
+    ensures write_fault_front { result ≡ 6 → (text : List ℕ)
+        × MayWrite (asked_of (map string_bytes words.now)) (I.left image.old) (P.left probes.old)
+        (Rose (I.faults image.old) (I.faults image.new)) (Rose (P.faults probes.old) (P.faults probes.new)) text
+        × AppendsPart (O.written out.old) text (O.written out.new) }
 
     ensures image_never_falls { I.faults image.old ≤ I.faults image.new }
     ensures probes_never_falls { P.faults probes.old ≤ P.faults probes.new }
     ensures out_never_falls { O.faults out.old ≤ O.faults out.new }
 {
-    let reply = reply_to(alloc, words, image, probes);
-    match write_all(out, reply.text().as_bytes()) {
-        Ok(()) => reply.status(),
-        Err(Failed) => WRITE_FAULT,
+    run_words(alloc, words, image, probes, out)
+}
+
+/// The run of words.
+fn run_words<I: Source, P: Source, O: Sink>(
+    alloc: Global,
+    words: &[String],
+    image: &mut I,
+    probes: &mut P,
+    out: &mut O,
+) -> u8
+    ensures ran { Ran (asked_of (map string_bytes words.now)) (I.left image.old) (P.left probes.old)
+        (I.faults image.old) (I.faults image.new) (P.faults probes.old) (P.faults probes.new) (O.faults out.old) (O.faults out.new)
+        (O.written out.old) (O.written out.new) result }
+    ensures image_never_falls { I.faults image.old ≤ I.faults image.new }
+    ensures probes_never_falls { P.faults probes.old ≤ P.faults probes.new }
+    ensures out_never_falls { O.faults out.old ≤ O.faults out.new }
+{
+    match parse_words(alloc, words) {
+        Ok(command) => run_command(alloc, &command, image, probes, out),
+        Err(WordsRefusal::Usage) => put_reply(&Reply::Usage, out),
+        Err(WordsRefusal::OutOfMemory) => put_reply(&Reply::OutOfMemory, out),
     }
 }

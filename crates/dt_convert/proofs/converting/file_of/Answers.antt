@@ -1,4 +1,4 @@
-use Rattle.std.proofs.Common.{◌<◌, refl, arith}
+use Rattle.std.proofs.Common.{◌<◌, refl, ◌∙◌, arith}
 use Rattle.dt_dump.proofs.Underway.{hart_fits, zeros}
 use Rattle.dt_convert.proofs.Drafts.{after_record, lawful_next, starts}
 use Rattle.dt_convert.proofs.converting.file_of.Goals as goal
@@ -7,6 +7,7 @@ pub loop-harts-init : goal.loop-harts-init
 loop-harts-init g c = record {
   draft = rw c.new-bytes.ensures.items (starts _ _ _ _ c.requires refl (λ hart _. zeros hart));
   counted = omega arith;
+  same_lent = refl;
 }
 
 pub put_record-requires-clause-lawful : goal.put_record-requires-clause-lawful
@@ -21,4 +22,5 @@ loop-harts-preserved g c =
     record {
       draft = rw (c.in-Ok-put_record.ensures.spelled, c.in-Ok-put_record.ensures.stamped) (after_record _ _ _ _ _ _ _ _ r d c.in-Event.ensures.told step fits);
       counted = omega (arith, c.loop-harts.invariant.counted, c.in-Event.ensures.rising);
+      same_lent = c.in-Event.ensures.same_lent ∙ c.loop-harts.invariant.same_lent;
     }

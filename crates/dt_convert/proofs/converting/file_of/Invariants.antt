@@ -1,4 +1,4 @@
-use Rattle.std.proofs.Common.{◌≤◌}
+use Rattle.std.proofs.Common.{◌≡◌, ◌≤◌}
 use Rattle.dt_dump.proofs.Underway.{remaining}
 use Rattle.dt_convert.specs.Convert.{version_of}
 use Rattle.dt_convert.proofs.Drafts.{IsDraft}
@@ -11,6 +11,7 @@ invariant-loop-harts g l =
     record {
       draft : IsDraft (left l.fn.probes) (left l.probes) (version_of l.version) l.bytes.items l.stamps (g.P.Probes.progress l.probes);
       counted : g.P.Probes.faults l.fn.probes ≤ g.P.Probes.faults l.probes;
+      same_lent : g.P.LentProbes.lent l.probes ≡ g.P.LentProbes.lent l.fn.probes;
     }
 
 abbrev pub decreases-loop-harts : goal.decreases-loop-harts

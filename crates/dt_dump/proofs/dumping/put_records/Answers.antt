@@ -1,4 +1,4 @@
-use Rattle.std.proofs.Common.{◌<◌, ℕ, List, refl, sym, subst, arith}
+use Rattle.std.proofs.Common.{◌<◌, ℕ, List, refl, sym, ◌∙◌, subst, arith}
 use Rattle.dt_text.specs.Line.{line_text}
 use Rattle.dt_dump.specs.Dump.{AppendsPart}
 use Rattle.dt_dump.proofs.Texts.{front_of_text}
@@ -10,6 +10,7 @@ loop-event-init g c = record {
   underway = starts _ _ _ _ c.requires refl (λ hart _. zeros hart);
   probes_counted = omega arith;
   out_counted = omega arith;
+  same_lent = refl;
 }
 
 pub put_record-requires-clause-few : goal.put_record-requires-clause-few
@@ -23,11 +24,12 @@ loop-event-preserved g c =
     let fits : c.in-Event.event.hart < 8 = hart_fits _ _ u.given c.in-Event.event c.in-Event.ensures.step u.tells in
     record {
       underway =
-          subst (λ (counts : List ℕ). IsUnderway (g.P.Probes.left c.args.probes.now) (g.P.Probes.left c.next.new.self) (g.O.Sink.written c.args.out.now) (g.O.Sink.written c.put_record.new.out) counts (g.P.Probes.progress c.next.new.self))
+          subst (λ (counts : List ℕ). IsUnderway (g.P.Probes.left c.args.probes.now) (g.P.Probes.left c.answer.new.self) (g.O.Sink.written c.args.out.now) (g.O.Sink.written c.put_record.new.out) counts (g.P.Probes.progress c.answer.new.self))
           (sym c.in-Ok.ensures.counted)
           (after_record _ _ _ _ _ _ c.loop-event.counts _ _ c.in-Event.event u c.in-Event.ensures.told c.in-Event.ensures.step fits c.in-Ok.ensures.ok);
       probes_counted = omega (arith, c.loop-event.invariant.probes_counted, c.in-Event.ensures.rising);
       out_counted = omega (arith, c.loop-event.invariant.out_counted, c.in-Ok.ensures.never_falls);
+      same_lent = c.in-Event.ensures.same_lent ∙ c.loop-event.invariant.same_lent;
     }
 
 pub returns-in-Err-WriteFault-clause-write_fault_front : goal.returns-in-Err-WriteFault-clause-write_fault_front

@@ -1,4 +1,4 @@
-use Rattle.std.proofs.Common.{◌≤◌}
+use Rattle.std.proofs.Common.{◌≡◌, ◌≤◌}
 use Rattle.dt_dump.proofs.Underway.{IsUnderway, remaining}
 use Rattle.dt_dump.proofs.dumping.put_records.Given as goal
 
@@ -11,6 +11,7 @@ invariant-loop-event g l =
       underway : IsUnderway (left l.fn.probes) (left l.probes) (written l.fn.out) (written l.out) l.counts (g.P.Probes.progress l.probes);
       probes_counted : g.P.Probes.faults l.fn.probes ≤ g.P.Probes.faults l.probes;
       out_counted : g.O.Sink.faults l.fn.out ≤ g.O.Sink.faults l.out;
+      same_lent : g.P.LentProbes.lent l.probes ≡ g.P.LentProbes.lent l.fn.probes;
     }
 
 abbrev pub decreases-loop-event : goal.decreases-loop-event

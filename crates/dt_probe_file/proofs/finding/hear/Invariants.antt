@@ -9,6 +9,7 @@ invariant-loop-version g l =
     record {
       whole : whole l.held (left l.source) ≡ whole l.fn.held (left l.fn.source);
       counted : g.S.Source.faults l.fn.source ≤ g.S.Source.faults l.source;
+      same_lent : g.S.Source.lent l.source ≡ g.S.Source.lent l.fn.source;
     }
 
 abbrev pub decreases-loop-version : goal.decreases-loop-version

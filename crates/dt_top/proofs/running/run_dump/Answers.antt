@@ -1,0 +1,18 @@
+use Rattle.std.proofs.Common.{rules}
+use Rattle.dt_top.proofs.Filing.{dump_ran}
+use Rattle.dt_top.proofs.running.run_dump.Goals as goal
+
+pub returns-clause-ran : goal.returns-clause-ran
+returns-clause-ran g c = λ asked image image_old image_new is.
+    let d = c.dump_probes-status.ensures in
+    dump_ran asked image _ image_old image_new _ _ _ _ _ _ _ _ _ _ _ is c.within-stream.ensures.told c.within-stream.ensures.faults
+    (record {
+      whole = d.whole;
+      ended = d.ended;
+      read_fault = d.read_fault;
+      read_fault_text = d.read_fault_text;
+      memory = d.memory;
+      write_fault = d.write_fault;
+      write_fault_front = d.write_fault_front;
+    })
+    (search rules)

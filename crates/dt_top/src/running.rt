@@ -1,0 +1,117 @@
+//! The runs of the tasks.
+ghost use Rattle.std.specs.Prelude.{◌≡◌, ◌≤◌, ℕ, List, Option, Some};
+ghost use Rattle.dt_source.specs.Faults.{Rose};
+ghost use Rattle.dt_convert.specs.Convert.{version_of};
+ghost use Rattle.dt_words.specs.declared.commands.Task.TheVariants.{Pass, Dump, Convert};
+ghost use Rattle.dt_words.specs.Table.{Asked, asked_by};
+ghost use Rattle.dt_top.specs.Answer.{version_named};
+ghost use Rattle.dt_top.specs.Replies.{answer_by};
+ghost use Rattle.dt_top.specs.Running.{IsPut, Ran};
+
+use crate::replies::{Reply, check_reply};
+use dt_convert::{FileVersion, convert_probes};
+use dt_dump::{WRITE_FAULT, dump_probes, put_last};
+use dt_probe_file::{FileProbes, Room};
+use dt_record::Next;
+use dt_source::{Failed, Sink, Source, write_all};
+use dt_words::{Command, Task};
+use std::alloc::Global;
+
+/// Writes a reply, and gives the exit status.
+pub fn put_reply<O: Sink>(reply: &Reply, out: &mut O) -> u8
+    ensures put { IsPut (answer_by reply.now) (O.faults out.old) (O.faults out.new) (O.written out.old) (O.written out.new) result }
+    ensures never_falls { O.faults out.old ≤ O.faults out.new }
+{
+    match write_all(out, reply.text().as_bytes()) {
+        Ok(()) => reply.status(),
+        Err(Failed) => WRITE_FAULT,
+    }
+}
+
+/// Judges a probe file against the reference.
+fn run_pass<I: Source, P: Source, O: Sink>(
+    alloc: Global,
+    image: &mut I,
+    probes: &mut P,
+    out: &mut O,
+) -> u8
+    ensures ran { (asked : Asked) → asked.task ≡ Pass
+        → Ran (Some asked) (I.left image.old) (P.left probes.old)
+        (I.faults image.old) (I.faults image.new) (P.faults probes.old) (P.faults probes.new) (O.faults out.old) (O.faults out.new)
+        (O.written out.old) (O.written out.new) result }
+    ensures image_never_falls { I.faults image.old ≤ I.faults image.new }
+    ensures probes_never_falls { P.faults probes.old ≤ P.faults probes.new }
+    ensures out_never_falls { O.faults out.old ≤ O.faults out.new }
+{
+    let reply = check_reply(alloc, image, probes);
+    put_reply(&reply, out)
+}
+
+/// Writes the records of a probe file.
+fn run_dump<P: Source, O: Sink>(alloc: Global, probes: &mut P, out: &mut O) -> u8
+    ensures ran { (asked : Asked) (image : Option (List ℕ)) (image_old image_new : ℕ) → asked.task ≡ Dump
+        → Ran (Some asked) image (P.left probes.old)
+        image_old image_new (P.faults probes.old) (P.faults probes.new) (O.faults out.old) (O.faults out.new)
+        (O.written out.old) (O.written out.new) result }
+    ensures probes_never_falls { P.faults probes.old ≤ P.faults probes.new }
+    ensures out_never_falls { O.faults out.old ≤ O.faults out.new }
+{
+    let Ok(room) = Room::new(alloc) else {
+        return put_reply(&Reply::OutOfMemory, out);
+    };
+    let mut stream = FileProbes::within(room, probes);
+    let status = dump_probes(alloc, &mut stream, out);
+    stream.into_source();
+    status
+}
+
+/// The version that the words ask for.
+fn version_named(to: u8) -> FileVersion
+    ensures { version_of result ≡ version_named to }
+{
+    if to == 1 {
+        FileVersion::One
+    } else {
+        FileVersion::Two
+    }
+}
+
+/// Writes a probe file in another version.
+fn run_convert<P: Source, O: Sink>(alloc: Global, to: u8, probes: &mut P, out: &mut O) -> u8
+    ensures ran { (asked : Asked) (image : Option (List ℕ)) (image_old image_new : ℕ) → asked.task ≡ Convert → asked.to ≡ to
+        → Ran (Some asked) image (P.left probes.old)
+        image_old image_new (P.faults probes.old) (P.faults probes.new) (O.faults out.old) (O.faults out.new)
+        (O.written out.old) (O.written out.new) result }
+    ensures probes_never_falls { P.faults probes.old ≤ P.faults probes.new }
+    ensures out_never_falls { O.faults out.old ≤ O.faults out.new }
+{
+    let Ok(room) = Room::new(alloc) else {
+        return put_reply(&Reply::OutOfMemory, out);
+    };
+    let mut stream = FileProbes::within(room, probes);
+    let status = convert_probes(alloc, version_named(to), &mut stream, out);
+    stream.into_source();
+    status
+}
+
+/// Does what a command says.
+pub fn run_command<I: Source, P: Source, O: Sink>(
+    alloc: Global,
+    command: &Command,
+    image: &mut I,
+    probes: &mut P,
+    out: &mut O,
+) -> u8
+    ensures ran { Ran (Some (asked_by command.now)) (I.left image.old) (P.left probes.old)
+        (I.faults image.old) (I.faults image.new) (P.faults probes.old) (P.faults probes.new) (O.faults out.old) (O.faults out.new)
+        (O.written out.old) (O.written out.new) result }
+    ensures image_never_falls { I.faults image.old ≤ I.faults image.new }
+    ensures probes_never_falls { P.faults probes.old ≤ P.faults probes.new }
+    ensures out_never_falls { O.faults out.old ≤ O.faults out.new }
+{
+    match command.task {
+        Task::Pass => run_pass(alloc, image, probes, out),
+        Task::Dump => run_dump(alloc, probes, out),
+        Task::Convert => run_convert(alloc, command.to, probes, out),
+    }
+}
