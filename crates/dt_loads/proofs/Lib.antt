@@ -1,0 +1,5 @@
+mod FoundValues
+mod LastVisible
+mod Lines
+mod NewerWrites
+mod Notes
