@@ -1,0 +1,4 @@
+pub mod Faults
+pub mod Instructions
+pub mod Laws
+pub mod Traps
