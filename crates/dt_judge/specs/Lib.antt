@@ -1,0 +1,5 @@
+pub mod Atomics
+pub mod Judgement
+pub mod Kinds
+pub mod Runs
+pub mod Windows
