@@ -8,20 +8,32 @@ const LINE: u64 = 0x8000_0100;
 
 const NEXT_LINE: u64 = 0x8000_0140;
 
-fn own(seq: u32, addr: u64) -> OwnStore {
-    OwnStore {
-        seq,
-        addr,
-        width: 8,
-        value: 7,
-    }
-}
+const FIRST: OwnStore = OwnStore {
+    seq: 2,
+    addr: LINE,
+    width: 8,
+    value: 7,
+};
+
+const SECOND: OwnStore = OwnStore {
+    seq: 3,
+    addr: 0x8000_0108,
+    width: 8,
+    value: 7,
+};
+
+const NEXT: OwnStore = OwnStore {
+    seq: 4,
+    addr: NEXT_LINE,
+    width: 8,
+    value: 7,
+};
 
 /// Two doublewords of 7, one after the other on a line.
 fn two_stores(alloc: Global) -> Result<Stores, AllocError> {
     let mut stores = Stores::new(alloc);
-    stores.commit(own(2, LINE))?;
-    stores.commit(own(3, LINE + 8))?;
+    stores.commit(FIRST)?;
+    stores.commit(SECOND)?;
     Ok(stores)
 }
 
@@ -81,15 +93,16 @@ fn other_data_is_refused(rt: HostRuntime) -> Result<(), Fail> {
 
 #[test]
 fn an_older_store_behind_a_fence_bars(rt: HostRuntime) -> Result<(), Fail> {
-    let mut stores = two_stores(rt.alloc())?;
+    let mut stores = Stores::new(rt.alloc());
+    stores.commit(FIRST)?;
     stores.fence(true, false);
-    stores.commit(own(5, NEXT_LINE))?;
+    stores.commit(NEXT)?;
     assert_eq!(rt;
-        drains(&stores, NEXT_LINE, 0xff, 1, &sevens(&[0]), 6),
-        refused(Reason::Barrier, 2, 6)
+        drains(&stores, NEXT_LINE, 0xff, 1, &sevens(&[0]), 5),
+        refused(Reason::Barrier, 2, 5)
     );
     assert_eq!(rt;
-        drains(&stores, NEXT_LINE, 0xff, 2, &sevens(&[0]), 6),
+        drains(&stores, NEXT_LINE, 0xff, 2, &sevens(&[0]), 5),
         refused(Reason::DrainCount, 1, 2)
     );
     Ok(())

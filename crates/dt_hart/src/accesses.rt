@@ -17,7 +17,7 @@ use crate::notes::note_read;
 use crate::reads::ReadFrom;
 use dt_local::Local;
 use dt_record::{Body, Key, OwnStore, Record};
-use dt_stores::{DrainAnswer, Stores};
+use dt_stores::{DrainAnswer, Stores, loads_keep_stores};
 use std::alloc::AllocError;
 
 /// What a hart's memory accesses leave, as later ones ask for it.
@@ -45,6 +45,7 @@ impl Accesses {
         ensures follows { OnOk result (Follows self.old self.new (key_of seq event.now) event.now.body read) }
         ensures unchanged { OnErr result (IsKept self.old self.new) }
     {
+        loads_keep_stores();
         let key = Key {
             stamp: event.stamp,
             hart: event.hart,

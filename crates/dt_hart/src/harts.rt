@@ -12,9 +12,11 @@ ghost use Rattle.dt_hart.specs.Taking.{WasJudged, is_placed, moment_read};
 
 use crate::accesses::Accesses;
 use crate::reads::ReadFrom;
+use dt_judged::judged_goes_on;
 use dt_local::Local;
 use dt_record::Record;
-use dt_reference::{advance, start};
+use dt_reference::{actions_go_on, advance, start, state_goes_on};
+use dt_sources::{knowing_goes_on, least_choice_goes_on, notes_are_added};
 use dt_step::Arch;
 use dt_stores::Stores;
 use std::alloc::{AllocError, Global};
@@ -136,6 +138,12 @@ impl Hart {
         ensures stamp { OnOk result (self.new.stamp ≡ event.now.stamp) }
         ensures unchanged { OnErr result (self.new ≡ self.old) }
     {
+        state_goes_on();
+        actions_go_on();
+        knowing_goes_on();
+        notes_are_added();
+        least_choice_goes_on();
+        judged_goes_on();
         self.accesses.take(self.seq, event, read)?;
         advance(&mut self.arch, event);
         self.seq += 1;

@@ -1,9 +1,10 @@
-ghost use Rattle.std.specs.Prelude.{◌≡◌, ℕ, ◌+◌, ◌%◌, ◌<◌, ◌≤◌, if◌then◌else◌, is_some, length, slice_get, Some, IsTrue, OnOk, OnErr};
+ghost use Rattle.std.specs.Prelude.{◌≡◌, ℕ, ◌+◌, ◌%◌, ◌==◌, ◌&&◌, ◌<◌, ◌≤◌, if◌then◌else◌, is_some, length, slice_get, Some, IsTrue, OnOk, OnErr};
 ghost use Rattle.std.specs.Int.{bit_at};
 ghost use Rattle.dt_local.specs.LocalMemory.{newest_of, greater};
 ghost use Rattle.dt_record.specs.Lawful.{is_in_ram};
 ghost use Rattle.dt_record.specs.declared.keys.Key.{Key};
 ghost use Rattle.dt_record.specs.declared.origins.Origin.TheVariants as origin;
+ghost use Rattle.dt_sources.specs.Knowing.{write_key};
 ghost use Rattle.dt_hart.specs.Following.{read_key};
 
 use dt_local::Local;
@@ -31,16 +32,18 @@ fn mask_of(place: usize, from: &[Origin]) -> u64
     ensures { (at : ℕ) → bit_at result at ≡ (if is_some (read_key place from.now at) then 1 else 0) }
 {
     let mut mask = 0;
-    for (i, origin) in from.iter().enumerate() {
-        mask = with_bit(mask, place + i, *origin);
+    for (i, source) in from.iter().enumerate() {
+        mask = with_bit(mask, place + i, *source);
     }
     mask
 }
 
-fn with_bit(mask: u64, place: usize, origin: Origin) -> u64
+/// The mask with the bit at a place, where the source of that byte is a write.
+fn with_bit(mask: u64, place: usize, source: Origin) -> u64
     requires { place < 64 }
+    ensures { (at : ℕ) → bit_at result at ≡ (if (at == place) && is_some (write_key (Some source)) then 1 else bit_at mask at) }
 {
-    match origin {
+    match source {
         Origin::Write(_) => mask | 1 << place,
         Origin::Image | Origin::Store(_) => mask,
     }
@@ -52,8 +55,8 @@ fn keys_of(place: usize, from: &[Origin]) -> [Key; 64]
     ensures { (at : ℕ) (key : Key) → read_key place from.now at ≡ Some key → slice_get result at ≡ Some key }
 {
     let mut keys = [NO_KEY; 64];
-    for (i, origin) in from.iter().enumerate() {
-        keys[place + i] = key_of(*origin);
+    for (i, source) in from.iter().enumerate() {
+        keys[place + i] = key_of(*source);
     }
     keys
 }

@@ -1,4 +1,4 @@
-use Rattle.std.proofs.Common.{ℕ, ◌≡◌, ◌+◌, ◌≤◌, Bool, true, false, None, List, [], ◌∷◌, ◌++◌, length, filter, take, drop, map, zero, suc, refl, sym, ap, ◌∙◌, inl, inr, IsTrue, arith, subst}
+use Rattle.std.proofs.Common.{ℕ, ◌≡◌, ◌+◌, ◌≤◌, true, false, None, List, [], ◌∷◌, ◌++◌, length, filter, take, drop, zero, suc, refl, sym, ap, ◌∙◌, inl, inr, IsTrue, arith}
 use Rattle.std.proofs.lemmas.List.{append-nil, take-append-drop}
 use Rattle.std.proofs.lemmas.Bool.{cases_Bool}
 use Rattle.dt_record.specs.declared.keys.Key.{Key}
@@ -6,7 +6,7 @@ use Rattle.dt_record.specs.declared.accesses.OwnStore.{OwnStore}
 use Rattle.dt_record.specs.Actions.{Action, Stored, Drained, Fenced, Loaded, Atomic, Held, held_of, held_from, ww_fences, wr_fences, drains_on}
 use Rattle.dt_stores.specs.Kept.{Kept}
 use Rattle.dt_stores.specs.Standing.{StandsFor, stores_of}
-use Rattle.dt_stores.specs.Draining.{is_waiting_on, drained_by}
+use Rattle.dt_stores.specs.Draining.{is_waiting_on}
 use Rattle.dt_stores.specs.Plans.{TakesFirst}
 use Rattle.dt_stores.specs.GoingOn.{StoresGoOn, is_quiet}
 use Rattle.dt_stores.proofs.ActionLaws.{stores_of-append}
