@@ -3,3 +3,4 @@ mod LastVisible
 mod Lines
 mod NewerWrites
 mod Notes
+mod OneAnswer

@@ -1,6 +1,4 @@
-use Rattle.std.proofs.Common.{ℕ, ◌≡◌, ◌+◌, ◌<◌, ◌↔◌, true, false, Option, Some, None, List, IsTrue, refl, sym, ap, subst, ◌∙◌, inl, inr, arith}
-use Rattle.std.specs.Prelude.{IfSome}
-use Rattle.std.specs.List.{slice_get}
+use Rattle.std.proofs.Common.{ℕ, ◌≡◌, ◌+◌, ◌↔◌, false, Option, Some, None, List, IsTrue, refl, sym, ap, subst, ◌∙◌, arith}
 use Rattle.std.proofs.lemmas.Bool.{false≢true}
 use Rattle.std.proofs.lemmas.Bool.Decides.{nat_tests}
 use Rattle.dt_record.specs.declared.keys.Key.{Key}
@@ -11,13 +9,12 @@ use Rattle.dt_record.specs.declared.origins.Origin.TheVariants as origin
 use Rattle.dt_record.specs.declared.origins.Sources.{Sources}
 use Rattle.dt_record.specs.Keys.{key_below, KeyBelow}
 use Rattle.dt_record.specs.Actions.{Action}
-use Rattle.dt_record.specs.LoadSources.{At, rank_below, origin_of}
-use Rattle.dt_versions.specs.Laws.{source_rank}
+use Rattle.dt_record.specs.LoadSources.{origin_of}
 use Rattle.dt_local.specs.LocalMemory.{LocalMemory, newest_of}
 use Rattle.dt_sources.specs.Finding.{AreSourcesAt}
 use Rattle.dt_sources.specs.Knowing.{IsKnownKey, IsGreatest, Knows}
 use Rattle.dt_loads.specs.Newer.{HasNewerByte, is_newer_than}
-use Rattle.dt_loads.specs.Reading.{IsNewer, HasNewer}
+use Rattle.dt_loads.specs.Reading.{HasNewer}
 
 -- Comparing with the newest key that is known decides whether a write is newer than all.
 

@@ -69,3 +69,14 @@ IsLoadAnswer image writes actions moments ask signed value (Ok passed) =
     (extend_value ask.width signed ask.raw ≡ value) × IsReading image writes actions moments ask passed
 IsLoadAnswer image writes actions moments ask signed value (Err refused) =
     IsUnread image writes actions moments ask signed value × (refused ≡ misfit LoadSource (expected_load image writes actions ask signed) value)
+
+-- the answer has a place for each of eight sources, as all of the code's have
+abbrev pub HasEightPlaces : Result Passed Misfit → Type 0
+HasEightPlaces (Ok passed) = length passed.sources.from ≡ 8
+HasEightPlaces (Err refused) = Unit {0}
+
+-- no load has two answers
+abbrev pub LoadsHaveOneAnswer : Type 0
+LoadsHaveOneAnswer = (image : List ℕ) (writes : List Write) (actions : List Action) (moments : ℕ → ℕ) (ask : LoadAsk) (signed : Bool) (value : ℕ) (one other : Result Passed Misfit)
+    → HasEightPlaces one → HasEightPlaces other
+    → IsLoadAnswer image writes actions moments ask signed value one → IsLoadAnswer image writes actions moments ask signed value other → one ≡ other

@@ -4,6 +4,7 @@
 #![tactic(auto)]
 
 mod checks;
+mod laws;
 mod noting;
 mod reading;
 #[cfg(test)]
@@ -12,5 +13,6 @@ mod tests;
 pub use checks::{device_value, order};
 pub use dt_record::{LoadAsk, Sources};
 pub use dt_rules::Misfit;
+pub use laws::loads_have_one_answer;
 pub use noting::{read_keys, read_mask};
 pub use reading::{Passed, load_ask, ram_load};

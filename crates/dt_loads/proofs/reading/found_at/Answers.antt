@@ -1,5 +1,5 @@
-use Rattle.std.proofs.Common.{◌≡◌, ◌+◌, ◌-◌, ◌*◌, ◌^◌, ◌<◌, ◌≤◌, ap, ◌∙◌, arith}
-use Rattle.dt_record.specs.LoadSources.{found_byte, found_value}
+use Rattle.std.proofs.Common.{◌≡◌, ◌+◌, ◌-◌, ◌<◌, ap, ◌∙◌, arith}
+use Rattle.dt_record.specs.LoadSources.{found_byte}
 use Rattle.dt_loads.proofs.FoundValues.{found_more, one_more_fits, seven_fit}
 use Rattle.dt_loads.proofs.Lines.{lies_in_line}
 use Rattle.dt_loads.proofs.reading.found_at.Goals as goal

@@ -1,4 +1,4 @@
-use Rattle.std.proofs.Common.{◌≡◌, inr, sym, subst, ◌∙◌}
+use Rattle.std.proofs.Common.{inr, sym, subst, ◌∙◌}
 use Rattle.dt_sources.specs.Finding.{AreSourcesAt}
 use Rattle.dt_loads.proofs.NewerWrites.{newer_by_newest}
 use Rattle.dt_loads.proofs.reading.ram_load.Goals as goal

@@ -1,4 +1,4 @@
-use Rattle.std.proofs.Common.{◌≡◌, ap, ◌∙◌}
+use Rattle.std.proofs.Common.{ap, ◌∙◌}
 use Rattle.dt_alu.specs.Extend.{extend_value}
 use Rattle.dt_record.specs.declared.reasons.Reason.TheVariants.{LoadSource}
 use Rattle.dt_record.specs.LoadSources.{found_value}
