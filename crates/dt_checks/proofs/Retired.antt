@@ -35,7 +35,7 @@ passed_plan (Fences ww wr rr) tag p passed = let held = checked _ _ _ p passed i
 passed_plan FenceI tag p passed = let held = checked _ _ _ p passed in (held.1, eqb-true _ _ held.0)
 passed_plan (FencesPages va all) tag p passed = let held = checked _ _ _ p passed in (held.1, eqb-true _ _ held.0)
 
-module _ (a : Arch) (bits tag : ℕ) (i : Instr) (is_instr : IsTrue (is_instruction bits)) (means : meaning_of bits ≡ Some i) (decoded : IsDecoded i) where
+module _ (a : Arch) (bits tag : ℕ) (i : Instr) (well_spelled : IsTrue (is_instruction bits)) (means : meaning_of bits ≡ Some i) (decoded : IsDecoded i) where
   -- the plan of an instruction that raises a cause, or none
   abbrev by_cause : Option ℕ → Planned
   by_cause due = option_map_or (λ cause. Raises cause (due_tval a i bits cause)) due (legal_plan a i bits)
@@ -45,7 +45,7 @@ module _ (a : Arch) (bits tag : ℕ) (i : Instr) (is_instr : IsTrue (is_instruct
       let P : Planned → Type 0 = λ q. IsRetired a bits tag q in
       let planned : legal_plan a i bits ≡ plan_of a i bits = ap by_cause (sym none) in
       subst P same (record {
-        can_retire = record { instruction = is_instr; legal = some_and (meaning_of bits) i (λ j. due_cause a j ≡ None) means none };
+        can_retire = record { instruction = well_spelled; legal = some_and (meaning_of bits) i (λ j. due_cause a j ≡ None) means none };
         is_planned = some_and (meaning_of bits) i (λ j. legal_plan a i bits ≡ plan_of a j bits) means planned;
         is_aligned = legal_plan-aligned a i bits decoded none;
         is_due = due;
