@@ -2,3 +2,4 @@ pub mod Faults
 pub mod Instructions
 pub mod Laws
 pub mod Traps
+pub mod Worked

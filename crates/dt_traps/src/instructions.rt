@@ -36,7 +36,7 @@ fn atomic_access(op: AtomicOp) -> Access
     }
 }
 
-fn misfit(due: u64, cause: u64) -> Misfit
+fn refused(due: u64, cause: u64) -> Misfit
     ensures { result ≡ refused due cause }
 {
     Misfit {
@@ -48,7 +48,7 @@ fn misfit(due: u64, cause: u64) -> Misfit
 
 /// Whether an instruction with this plan may raise the cause. `window` is for the page of the
 /// address that it accesses.
-pub fn raising(
+pub fn plan_trap(
     m: &Moments,
     window: Span,
     a: &Arch,
@@ -60,7 +60,7 @@ pub fn raising(
     ensures { result ≡ plan_check m.now.image m.now.writes window a.now p cause }
 {
     match p {
-        Planned::Raises { cause: due, tval } => own(due, tval, cause),
+        Planned::Raises { cause: due, tval } => own_cause(due, tval, cause),
         Planned::NeedsLoad { va, .. } => {
             fault(m, window, walk_args(a, Access::Load, va), false, cause)
         }
@@ -70,18 +70,18 @@ pub fn raising(
         Planned::NeedsAtomic { va, op, .. } => {
             fault(m, window, walk_args(a, atomic_access(op), va), true, cause)
         }
-        _ => Err(misfit(NO_NUMBER, cause)),
+        _ => Err(refused(NO_NUMBER, cause)),
     }
 }
 
 /// Whether the cause is the one that an instruction raises by itself.
-fn own(due: u64, tval: u64, cause: u64) -> Result<Raised, Misfit>
+fn own_cause(due: u64, tval: u64, cause: u64) -> Result<Raised, Misfit>
     ensures { result ≡ own_check due tval cause }
 {
     if cause == due {
         Ok(Raised { stale: false, tval })
     } else {
-        Err(misfit(due, cause))
+        Err(refused(due, cause))
     }
 }
 

@@ -5,7 +5,7 @@ ghost use Rattle.dt_step.specs.State.{IsArch};
 ghost use Rattle.dt_traps.specs.Traps.{SpansEndWithin, cause_check, entry_check, execution_check, fetch_fault_check, first_half_check, instruction_check, interrupt_check, is_first_half, is_interrupt, letters_of, second_fault_check, trap_check, tval_check};
 
 use crate::faults::{Raised, fault};
-use crate::instructions::{planned, raising};
+use crate::instructions::{plan_trap, planned};
 use dt_checks::{FetchSpans, fetched, half_fetched, walk_args};
 use dt_csr::cause::{FETCH_ACCESS, FETCH_PAGE};
 use dt_rules::{Letters, Misfit, NO_LETTERS, Reason, interrupt, tval};
@@ -38,7 +38,7 @@ fn is_fetch_fault(cause: u64) -> bool
     cause == FETCH_ACCESS || cause == FETCH_PAGE
 }
 
-fn interrupted(a: &Arch, cause: u64) -> Result<Raised, Misfit>
+fn interrupt_trap(a: &Arch, cause: u64) -> Result<Raised, Misfit>
     requires { IsTrue (is_interrupt cause) }
     ensures { result ≡ interrupt_check a.now cause }
 {
@@ -127,7 +127,7 @@ fn fetch_fault(
 }
 
 /// What an instruction raises, where it is known whether its fetch is of older moments.
-fn executed(
+fn execution_trap(
     m: &Moments,
     window: Span,
     a: &Arch,
@@ -140,14 +140,14 @@ fn executed(
     requires instruction { IsTrue (is_instruction bits) }
     ensures { result ≡ execution_check m.now.image m.now.writes window a.now bits cause stale }
 {
-    let found = raising(m, window, a, planned(a, bits), cause)?;
+    let found = plan_trap(m, window, a, planned(a, bits), cause)?;
     Ok(Raised {
         stale: stale || found.stale,
         tval: found.tval,
     })
 }
 
-fn instruction(
+fn instruction_trap(
     m: &Moments,
     spans: TrapSpans,
     a: &Arch,
@@ -161,10 +161,16 @@ fn instruction(
     ensures { result ≡ instruction_check m.now.image m.now.writes spans a.now bits cause }
 {
     let stale = fetched(m, spans.fetch, a, bits)?;
-    executed(m, spans.access, a, bits, cause, stale)
+    execution_trap(m, spans.access, a, bits, cause, stale)
 }
 
-fn caused(m: &Moments, spans: TrapSpans, a: &Arch, bits: u32, cause: u64) -> Result<Raised, Misfit>
+fn trap_cause(
+    m: &Moments,
+    spans: TrapSpans,
+    a: &Arch,
+    bits: u32,
+    cause: u64,
+) -> Result<Raised, Misfit>
     requires spans { SpansEndWithin spans (length m.now.writes) }
     requires arch { IsArch a.now }
     requires even { a.now.pc % 2 ≡ 0 }
@@ -172,11 +178,11 @@ fn caused(m: &Moments, spans: TrapSpans, a: &Arch, bits: u32, cause: u64) -> Res
     ensures { result ≡ cause_check m.now.image m.now.writes spans a.now bits cause }
 {
     if is_interrupt(cause) {
-        interrupted(a, cause)
+        interrupt_trap(a, cause)
     } else if is_fetch_fault(cause) {
         fetch_fault(m, spans.fetch, a, bits, cause)
     } else {
-        instruction(m, spans, a, bits, cause)
+        instruction_trap(m, spans, a, bits, cause)
     }
 }
 
@@ -205,7 +211,7 @@ fn letters_of(stale: bool, interrupt: bool, zeroed: bool) -> Letters
 }
 
 /// The tval of a trap with an allowed cause, and then its letters.
-fn entered(cause: u64, tval: u64, found: Raised) -> Result<Letters, Misfit>
+fn entry(cause: u64, tval: u64, found: Raised) -> Result<Letters, Misfit>
     ensures { result ≡ entry_check cause tval found }
 {
     let zeroed = is_zeroed(found.tval, tval)?;
@@ -214,7 +220,7 @@ fn entered(cause: u64, tval: u64, found: Raised) -> Result<Letters, Misfit>
 
 /// Whether a hart in this state may enter the trap, and the letters of the rules that allow it: I for
 /// an interrupt, P where a fetch or a translation is of an older moment than the last of its span,
-/// and Z where tval is 0 in place of another value. The four numbers are those of the record.
+/// and Z where tval is 0 in place of another value. The four numbers are those of a lawful record.
 pub fn trap(
     m: &Moments,
     spans: TrapSpans,
@@ -237,6 +243,6 @@ pub fn trap(
             found: pc,
         });
     }
-    let found = caused(m, spans, a, bits, cause)?;
-    entered(cause, tval, found)
+    let found = trap_cause(m, spans, a, bits, cause)?;
+    entry(cause, tval, found)
 }
