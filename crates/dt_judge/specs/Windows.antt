@@ -1,5 +1,5 @@
-use Rattle.std.specs.Prelude.{ℕ, ◌+◌, ◌/◌, ◌==◌, ◌||◌, Bool, true, false, if◌then◌else◌, Option, None, Some, option_map, option_or, List, [], ◌∷◌}
-use Rattle.std.specs.Option.{option_map_or}
+use Rattle.std.specs.Prelude.{ℕ, ◌+◌, ◌/◌, ◌==◌, ◌||◌, Bool, true, false, if◌then◌else◌, Option, None, Some, option_map, List, [], ◌∷◌}
+use Rattle.std.specs.Option.{option_map_or, option_or}
 use Rattle.dt_alu.specs.Words.{sum_of}
 use Rattle.dt_record.specs.declared.keys.Key.{Key}
 use Rattle.dt_record.specs.declared.records.Record.{Record}
