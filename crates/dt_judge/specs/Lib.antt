@@ -4,4 +4,5 @@ pub mod Judgement
 pub mod Kinds
 pub mod Reserving
 pub mod Runs
+pub mod Unfenced
 pub mod Windows

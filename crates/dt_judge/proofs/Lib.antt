@@ -1,0 +1,2 @@
+mod LastVisible
+mod Widths
