@@ -1,10 +1,9 @@
-use Rattle.std.proofs.Common.{ℕ, ◌≡◌, ◌==◌, ◌&&◌, ◌<◌, ◌%◌, ◌↔◌, Bool, true, Option, Some, None, List, [], ◌∷◌, ◌++◌, Result, Ok, Err, max, take, refl, sym, ap, ◌∙◌, subst, inl, inr, arith}
+use Rattle.std.proofs.Common.{ℕ, ◌≡◌, ◌<◌, ◌%◌, true, Option, Some, None, List, [], ◌∷◌, ◌++◌, Result, Ok, Err, max, take, refl, ap, ◌∙◌, arith}
 use Rattle.std.proofs.Math.ListN.{replicate}
 use Rattle.std.specs.Prelude.{if◌then◌else◌, OnOk}
 use Rattle.std.specs.List.{slice_get}
 use Rattle.std.specs.Option.{option_map_or}
 use Rattle.std.specs.declared.alloc.AllocError.{AllocError}
-use Rattle.std.proofs.lemmas.Bool.{cases_Bool}
 use Rattle.std.proofs.lemmas.List.{get_or-replicate, length-replicate}
 use Rattle.std.proofs.lemmas.Option.{slice_get-get_or}
 use Rattle.dt_record.specs.declared.accesses.LoadAsk.{LoadAsk}
@@ -14,7 +13,7 @@ use Rattle.dt_record.specs.declared.records.Body.TheVariants.{Load, Drain}
 use Rattle.dt_record.specs.declared.records.Retire.{Retire}
 use Rattle.dt_record.specs.Actions.{Action, Drained, Loaded}
 use Rattle.dt_record.specs.Lawful.{is_in_ram}
-use Rattle.dt_local.specs.LocalMemory.{LocalMemory, newest_of, is_noted, noted_key, greater}
+use Rattle.dt_local.specs.LocalMemory.{newest_of, is_noted, noted_key, greater}
 use Rattle.dt_reference.specs.HartActions.{width_of}
 use Rattle.dt_reference.specs.Meaning.{meaning_of}
 use Rattle.dt_stores.specs.declared.answers.DrainAnswer.{DrainAnswer}

@@ -1,4 +1,4 @@
-use Rattle.std.proofs.Common.{ℕ, ◌≡◌, ◌+◌, ◌==◌, ◌&&◌, Bool, true, false, not, Option, Some, None, List, take, refl, sym, ap, ◌∙◌, subst, inl, inr, IsTrue, arith}
+use Rattle.std.proofs.Common.{ℕ, ◌≡◌, Option, Some, None, List, take, refl, inl, inr, IsTrue}
 use Rattle.std.proofs.lemmas.Bool.{cases_Bool}
 use Rattle.dt_alu.specs.Extend.{low_bytes_of}
 use Rattle.dt_decode.specs.declared.instructions.Instr.{Instr}
@@ -8,7 +8,7 @@ use Rattle.dt_record.specs.declared.accesses.OwnStore.{OwnStore}
 use Rattle.dt_record.specs.declared.keys.Key.{Key}
 use Rattle.dt_record.specs.declared.records.Body.{Body}
 use Rattle.dt_record.specs.declared.records.Body.TheVariants.{Commit, Trap, Regs, Csrs, Load, Store, Atomic, Drain, Refill, Beat}
-use Rattle.dt_record.specs.Actions.{Action, Stored, Loaded}
+use Rattle.dt_record.specs.Actions.{Stored, Loaded}
 use Rattle.dt_record.specs.Lawful.{is_in_ram}
 use Rattle.dt_record.specs.Writes.{body_write}
 use Rattle.dt_reference.specs.HartActions.{body_action, commit_action, width_of}

@@ -1,4 +1,4 @@
-use Rattle.std.proofs.Common.{ℕ, ◌≡◌, ◌+◌, Bool, Option, Some, None, List, [], ◌∷◌, ◌++◌, length, max, refl, sym, ap, ◌∙◌, subst, IsTrue, arith}
+use Rattle.std.proofs.Common.{ℕ, ◌≡◌, ◌+◌, Bool, Option, None, List, [], ◌∷◌, ◌++◌, length, max, sym, ap, ◌∙◌, subst, IsTrue, arith}
 use Rattle.std.specs.Option.{option_to_list}
 use Rattle.std.proofs.lemmas.List.{append-nil, length-append}
 use Rattle.dt_record.specs.declared.keys.Key.{Key}

@@ -1,6 +1,5 @@
-use Rattle.std.proofs.Common.{ℕ, ◌≡◌, ◌+◌, ◌-◌, ◌<◌, ◌≤◌, ◌==◌, ◌&&◌, true, false, Option, Some, None, List, [], ◌∷◌, ◌++◌, length, take, zero, suc, refl, sym, ap, ◌∙◌, subst, inl, inr, arith}
-use Rattle.std.specs.Prelude.{if◌then◌else◌}
-use Rattle.std.specs.List.{slice_get, Contains}
+use Rattle.std.proofs.Common.{ℕ, ◌≡◌, ◌+◌, ◌-◌, ◌<◌, true, false, Option, Some, None, List, [], ◌∷◌, ◌++◌, length, take, zero, suc, refl, sym, ap, ◌∙◌, subst, inl, inr, arith}
+use Rattle.std.specs.List.{slice_get}
 use Rattle.std.specs.Option.{option_to_list}
 use Rattle.std.proofs.lemmas.Bool.{cases_lt, ne_eqb, eq-eqb}
 use Rattle.std.proofs.lemmas.Bool.Decides.{nat_tests}
@@ -10,14 +9,12 @@ use Rattle.dt_record.specs.declared.keys.Key.{Key}
 use Rattle.dt_record.specs.declared.origins.Origin.{Origin}
 use Rattle.dt_record.specs.declared.origins.Sources.{Sources}
 use Rattle.dt_record.specs.declared.records.Record.{Record}
-use Rattle.dt_record.specs.declared.records.Body.TheVariants.{Drain}
 use Rattle.dt_record.specs.declared.writes.Write.{Write}
 use Rattle.dt_record.specs.Actions.{Action, Stored, Drained, Loaded}
-use Rattle.dt_record.specs.Keys.{key_of}
 use Rattle.dt_record.specs.LoadSources.{is_within, origin_at, origin_of}
 use Rattle.dt_record.specs.Writes.{write_of_record}
 use Rattle.dt_local.specs.LocalMemory.{LocalMemory, local_memory, newest_of, greater}
-use Rattle.dt_sources.specs.Choice.{ChoosesLeast, LeastChoiceGoesOn, FitsNext, then_action, with_moment}
+use Rattle.dt_sources.specs.Choice.{ChoosesLeast, LeastChoiceGoesOn, with_moment}
 use Rattle.dt_sources.specs.Finding.{AreSourcesAt}
 use Rattle.dt_sources.specs.Knowing.{Knows, IsGreatest, IsKnownKey, KnowingGoesOn, NotesAreAdded, write_key, covering_key}
 use Rattle.dt_hart.specs.declared.reads.ReadFrom.{ReadFrom}

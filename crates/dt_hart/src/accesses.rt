@@ -12,8 +12,8 @@ ghost use Rattle.dt_hart.specs.Built.{is_built};
 ghost use Rattle.dt_hart.specs.Following.{Follows, IsKept, read_key};
 ghost use Rattle.dt_hart.specs.Taking.{is_placed, is_access_place};
 
-use crate::built::{is_in_ram, width_of};
 use crate::notes::note_read;
+use crate::places::{is_in_ram, width_of};
 use crate::reads::ReadFrom;
 use dt_local::Local;
 use dt_record::{Body, Key, OwnStore, Record};
@@ -76,6 +76,7 @@ impl Accesses {
         }
     }
 
+    /// A load from RAM notes the writes that its bytes came from, where it is told where it read.
     fn take_load(
         &mut self,
         at: u64,
@@ -101,6 +102,7 @@ impl Accesses {
         Ok(())
     }
 
+    /// A drain notes its own key. One that is allowed takes its stores, so no other answer is asked.
     fn take_drain(&mut self, key: Key, line: u64, mask: u64, count: u16) -> Result<(), AllocError>
         requires line { IsTrue (is_ram_line line) }
         ensures stores { OnOk result ((actions : List Action) (taken : ℕ) (bytes : List ℕ) → Keeps self.old.stores actions → drain_answer actions line count ≡ answer.Took taken bytes → Keeps self.new.stores (actions ++ Drained key line count ∷ [])) }
