@@ -9,7 +9,6 @@ mod harts;
 mod laws;
 mod notes;
 mod places;
-mod reads;
 #[cfg(test)]
 mod tests;
 
@@ -17,4 +16,3 @@ pub use built::is_built;
 pub use harts::Hart;
 pub use laws::known_at_next;
 pub use places::is_placed;
-pub use reads::ReadFrom;

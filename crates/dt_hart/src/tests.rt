@@ -1,4 +1,4 @@
-use crate::{Hart, ReadFrom, is_built, is_placed, known_at_next};
+use crate::{Hart, is_built, is_placed, known_at_next};
 use dt_record::{Body, Key, Origin, Record, Retire, Sources, lawful};
 use dt_reference::can_follow;
 use std::process::Abort;
@@ -36,13 +36,17 @@ fn drain() -> Body {
     }
 }
 
-fn everywhere(moment: u32, from: Origin) -> ReadFrom {
-    let sources = Sources {
+fn everywhere(from: Origin) -> Sources {
+    Sources {
         count: 8,
         from: [from; 8],
-    };
-    ReadFrom { moment, sources }
+    }
 }
+
+const NONE: Sources = Sources {
+    count: 0,
+    from: [Origin::Image; 8],
+};
 
 /// Takes a record of the hart that may be next.
 fn take(
@@ -50,7 +54,7 @@ fn take(
     hart: &mut Hart,
     stamp: u64,
     body: Body,
-    read: Option<ReadFrom>,
+    sources: Sources,
 ) -> Result<(), Fail> {
     let event = Record {
         stamp,
@@ -61,7 +65,7 @@ fn take(
     assert!(rt; is_built(&event) && is_placed(&event));
     assert!(rt; hart.stamp() <= stamp && hart.seq() < 4_194_304);
     assert!(rt; can_follow(hart.arch(), &event));
-    hart.take(&event, read)?;
+    hart.take(&event, sources)?;
     Ok(())
 }
 
@@ -80,23 +84,15 @@ fn a_store_is_forwarded_and_then_drained(rt: HostRuntime) -> Result<(), Fail> {
         hart: 0,
         seq: 4,
     };
-    for (stamp, body, read) in [
-        (1, commit(0x8000_0000, 0x0000_0297, 0x8000_0000), None),
-        (2, commit(0x8000_0004, 0x0070_0393, 7), None),
-        (3, store, None),
-        (
-            4,
-            load(0x8000_000c, 4),
-            Some(everywhere(0, Origin::Store(2))),
-        ),
-        (5, drain(), None),
-        (
-            6,
-            load(0x8000_0010, 6),
-            Some(everywhere(1, Origin::Write(key))),
-        ),
+    for (stamp, body, sources) in [
+        (1, commit(0x8000_0000, 0x0000_0297, 0x8000_0000), NONE),
+        (2, commit(0x8000_0004, 0x0070_0393, 7), NONE),
+        (3, store, NONE),
+        (4, load(0x8000_000c, 4), everywhere(Origin::Store(2))),
+        (5, drain(), NONE),
+        (6, load(0x8000_0010, 6), everywhere(Origin::Write(key))),
     ] {
-        take(&rt, &mut hart, stamp, body, read)?;
+        take(&rt, &mut hart, stamp, body, sources)?;
         let drained = stamp >= 5;
         assert_eq!(rt; hart.local().newest(LINE + 7), drained.then_some(key));
         assert_eq!(rt;
@@ -117,15 +113,11 @@ fn a_load_notes_the_write_that_it_read(rt: HostRuntime) -> Result<(), Fail> {
         hart: 0,
         seq: 5,
     };
-    for (stamp, body, read) in [
-        (1, commit(0x8000_0000, 0x0000_0297, 0x8000_0000), None),
-        (
-            12,
-            load(0x8000_0004, 12),
-            Some(everywhere(1, Origin::Write(key))),
-        ),
+    for (stamp, body, sources) in [
+        (1, commit(0x8000_0000, 0x0000_0297, 0x8000_0000), NONE),
+        (12, load(0x8000_0004, 12), everywhere(Origin::Write(key))),
     ] {
-        take(&rt, &mut hart, stamp, body, read)?;
+        take(&rt, &mut hart, stamp, body, sources)?;
     }
     for (addr, known) in [(LINE, Some(key)), (LINE + 7, Some(key)), (LINE + 8, None)] {
         assert_eq!(rt; hart.local().newest(addr), known);
