@@ -2,7 +2,7 @@ ghost use Rattle.std.specs.Prelude.{◌≡◌, ◌≤◌, ℕ, List, Option, len
 ghost use Rattle.dt_record.specs.declared.keys.Key.{Key};
 ghost use Rattle.dt_record.specs.Actions.{Action};
 ghost use Rattle.dt_record.specs.Lawful.{are_trap_bits, is_instruction};
-ghost use Rattle.dt_checks.specs.Retiring.{AccessesAligned};
+ghost use Rattle.dt_checks.specs.Retiring.{AccessesAligned, due_tag};
 ghost use Rattle.dt_drains.specs.Draining.{drain_check};
 ghost use Rattle.dt_hart.specs.Taking.{is_placed_at};
 ghost use Rattle.dt_reference.specs.Run.{CanRetire};
@@ -99,6 +99,7 @@ fn stored(
 ) -> Result<Passed, Misfit>
     requires within { seen.last ≤ length m.now.writes }
     requires aligned { AccessesAligned st.plan }
+    requires due { due_tag st.plan ≡ 6 }
     ensures finds { (actions : List Action) (moments : ℕ → ℕ) (reserved : Option (ℕ × Key)) → result ≡ stored (unfenced h.now m.now seen actions moments reserved) st.stale st.plan paddr value }
     ensures placed { OnOk result (IsPlacedBy st.plan paddr) }
 {

@@ -3,8 +3,10 @@
 #![tactic(auto)]
 
 mod findings;
+mod judging;
 mod kinds;
 mod loads;
 mod spans;
 
 pub use dt_hart::{Hart, is_built};
+pub use judging::{Judged, judge};

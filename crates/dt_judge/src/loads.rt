@@ -1,15 +1,16 @@
 ghost use Rattle.std.specs.Prelude.{◌≡◌, ◌≤◌, ◌%◌, ℕ, List, Option, length, IsTrue, OnOk, IfOk};
 ghost use Rattle.dt_alu.specs.Extend.{IsAccessWidth};
 ghost use Rattle.dt_record.specs.declared.keys.Key.{Key};
+ghost use Rattle.dt_record.specs.declared.records.Body.TheVariants as body;
 ghost use Rattle.dt_record.specs.Actions.{Action};
 ghost use Rattle.dt_record.specs.Lawful.{is_in_ram, is_instruction};
-ghost use Rattle.dt_checks.specs.Retiring.{AccessesAligned};
+ghost use Rattle.dt_checks.specs.Retiring.{AccessesAligned, due_tag};
 ghost use Rattle.dt_hart.specs.Taking.{is_placed_at};
 ghost use Rattle.dt_loads.specs.Reading.{ask_of};
 ghost use Rattle.dt_reference.specs.HartActions.{body_action};
 ghost use Rattle.dt_reference.specs.Run.{CanRetire};
 ghost use Rattle.dt_sources.specs.Finding.{is_load_place};
-ghost use Rattle.dt_judge.specs.Kinds.{IsLoadFinding, LoadsBy, LoadsRam, device_finding};
+ghost use Rattle.dt_judge.specs.Kinds.{IsLoadFinding, LoadsBy, LoadsRam, ReadsRam, device_finding, with_p};
 ghost use Rattle.dt_judge.specs.Unfenced.{HasReading, IsPlacedBy, IsReadBy, IsReadIn, Remembers, unfenced};
 
 use crate::kinds::PLAIN;
@@ -45,6 +46,38 @@ fn from_device(p: bool, width: u8, signed: bool, value: u64) -> Result<Passed, M
     })
 }
 
+fn with_p(p: bool, found: Result<Passed, Misfit>) -> Result<Passed, Misfit>
+    ensures { result ≡ with_p p found }
+{
+    match found {
+        Ok(found) => Ok(Passed {
+            letters: Letters {
+                p,
+                ..found.letters
+            },
+            sources: found.sources,
+        }),
+        Err(refused) => Err(refused),
+    }
+}
+
+/// The sources of a load from RAM. `p` is whether its fetch or its address is older.
+fn sourced(
+    h: &Hart,
+    m: &Moments,
+    p: bool,
+    ask: LoadAsk,
+    signed: bool,
+    value: u64,
+) -> Result<Passed, Misfit>
+    requires early { ask.at ≤ ask.key.stamp }
+    requires place { IsTrue (is_load_place ask) }
+    ensures finds { (seen : Span) (actions : List Action) (moments : ℕ → ℕ) (reserved : Option (ℕ × Key)) → Remembers h.now m.now.writes ask.key actions moments → ReadsRam (unfenced h.now m.now seen actions moments reserved) p ask signed value result }
+    ensures read { IfOk result (λ x. (actions : List Action) (moments : ℕ → ℕ) → Remembers h.now m.now.writes ask.key actions moments → HasReading m.now.image m.now.writes actions moments ask x.sources) }
+{
+    with_p(p, ram_load(m, h.stores(), h.local(), ask, signed, value))
+}
+
 /// A load from RAM. `p` is whether its fetch or its address is older.
 fn from_ram(
     h: &Hart,
@@ -60,14 +93,7 @@ fn from_ram(
     ensures read { IfOk result (λ x. (actions : List Action) (moments : ℕ → ℕ) → Remembers h.now m.now.writes ask.key actions moments → HasReading m.now.image m.now.writes actions moments ask x.sources) }
 {
     order(h.stores(), h.floor(), ask.at)?;
-    let found = ram_load(m, h.stores(), h.local(), ask, signed, value)?;
-    Ok(Passed {
-        letters: Letters {
-            p,
-            ..found.letters
-        },
-        sources: found.sources,
-    })
+    sourced(h, m, p, ask, signed, value)
 }
 
 /// A load after the checks that its instruction begins with.
@@ -83,6 +109,7 @@ fn loaded(
 ) -> Result<Passed, Misfit>
     requires within { seen.last ≤ length m.now.writes }
     requires aligned { AccessesAligned st.plan }
+    requires due { due_tag st.plan ≡ 5 }
     requires early { at ≤ key.stamp }
     ensures finds { (actions : List Action) (moments : ℕ → ℕ) (reserved : Option (ℕ × Key)) → Remembers h.now m.now.writes key actions moments → LoadsBy (unfenced h.now m.now seen actions moments reserved) key st.stale st.plan value at paddr result }
     ensures placed { OnOk result (IsPlacedBy st.plan paddr) }
@@ -119,7 +146,7 @@ pub fn load(
     ensures finds { (actions : List Action) (moments : ℕ → ℕ) (reserved : Option (ℕ × Key)) → Remembers h.now m.now.writes key actions moments → IsLoadFinding (unfenced h.now m.now seen actions moments reserved) key retire at paddr result }
     ensures can_retire { OnOk result (CanRetire h.now.arch retire.bits) }
     ensures placed { OnOk result (IsTrue (is_placed_at retire.bits paddr)) }
-    ensures read { IfOk result (λ x. (actions : List Action) (moments : ℕ → ℕ) → Remembers h.now m.now.writes key actions moments → IsReadIn m.now.image m.now.writes actions moments (body_action key (Body.Load retire at paddr)) x.sources) }
+    ensures read { IfOk result (λ x. (actions : List Action) (moments : ℕ → ℕ) → Remembers h.now m.now.writes key actions moments → IsReadIn m.now.image m.now.writes actions moments (body_action key (body.Load retire at paddr)) x.sources) }
 {
     let st = start(m, fetch_from(seen), h.arch(), retire.pc, retire.bits, 5)?;
     loaded(h, m, seen, key, st, retire.value, at, paddr)
