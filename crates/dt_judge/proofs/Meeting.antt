@@ -55,28 +55,27 @@ same_grounds h m s r key meets = λ i. record {
     spans test of = unfenced_span s key test of meets.built ∙ ap (λ (ws : List Write). seen_until ws key) meets.writes
 
 -- what is kept remembers what the hart did
-pub remembers : KnowsAtNext → (h : HartView) (m : History) (s : Setting) (r : Record) → Meets h m s r → Remembers h m.writes (key_of h.seq r) (did s) s.moments
+remembers : KnowsAtNext → (h : HartView) (m : History) (s : Setting) (r : Record) → Meets h m s r → Remembers h m.writes (key_in s r) (did s) s.moments
 remembers law h m s r meets =
     let known : KnowsAt h s (key_in s r) = law h s r meets.stands meets.goes_on in
-    subst (λ n. Remembers h m.writes (key_of n r) (did s) s.moments) (sym meets.stands.seq)
-    (record {
+    record {
       stores = meets.stands.stores;
       floor = meets.stands.floor;
       knows = subst (λ (ws : List Write). Knows (local_memory h.keys None) ws (did s) s.moments (key_in s r)) meets.writes known.knows;
       judged = subst (λ (ws : List Write). AreJudged ws (did s) (key_in s r)) meets.writes known.judged;
-    })
+    }
 
 -- what a body is found to be, whatever the hart did
-abbrev pub FoundAs : HartView → History → Record → Result Passed Misfit → Type 0
-FoundAs h m r f =
-    (actions : List Action) (moments : ℕ → ℕ) (reserved : Option (ℕ × Key)) → Remembers h m.writes (key_of h.seq r) actions moments
-    → FindsBody (unfenced h m (seen_until m.writes (key_of h.seq r)) actions moments reserved) (key_of h.seq r) r.body f
+abbrev pub FoundAs : HartView → History → (seq : ℕ) → Record → Result Passed Misfit → Type 0
+FoundAs h m seq r f =
+    (actions : List Action) (moments : ℕ → ℕ) (reserved : Option (ℕ × Key)) → Remembers h m.writes (key_of seq r) actions moments
+    → FindsBody (unfenced h m (seen_until m.writes (key_of seq r)) actions moments reserved) (key_of seq r) r.body f
 
-pub finds : KnowsAtNext → (h : HartView) (m : History) (s : Setting) (r : Record) (f : Result Passed Misfit) → FoundAs h m r f → Meets h m s r → Finds s r f
-finds law h m s r f found meets =
-    let there = found (did s) s.moments (reserved_in s.before) (remembers law h m s r meets) in
-    let its = subst (λ n. FindsBody (unfenced h m (seen_until m.writes (key_of n r)) (did s) s.moments (reserved_in s.before)) (key_of n r) r.body f) meets.stands.seq there in
-    subst (λ (g : Grounds). FindsBody g (key_in s r) r.body f) (sym (same_grounds h m s r (key_in s r) meets)) its
+pub finds : KnowsAtNext → (h : HartView) (m : History) (s : Setting) (seq : ℕ) (r : Record) (f : Result Passed Misfit) → seq ≡ h.seq → FoundAs h m seq r f → Meets h m s r → Finds s r f
+finds law h m s seq r f is found meets =
+    let its : FoundAs h m (length s.before) r f = subst (λ n. FoundAs h m n r f) (is ∙ meets.stands.seq) found in
+    subst (λ (g : Grounds). FindsBody g (key_in s r) r.body f) (sym (same_grounds h m s r (key_in s r) meets))
+    (its (did s) s.moments (reserved_in s.before) (remembers law h m s r meets))
 
 read_action : (s : Setting) (action : Option Action) (sources : Sources) → IsReadIn s.image s.writes (did s) s.moments action sources → (moment : ℕ) × IsRead s action moment sources
 read_action s (Some (Loaded ask)) sources read = (read.1.moment, record { fits = read.1.fits; least = read.1.least; origins = read.1.sources })
@@ -86,17 +85,17 @@ read_action s (Some (Drained key line count)) sources read = (0, tt)
 read_action s (Some (Fenced ww wr rr)) sources read = (0, tt)
 read_action s (Some (Atomic key addr width reads acquires)) sources read = (0, tt)
 
-abbrev pub FoundOf : HartView → History → Record → Sources → Type 0
-FoundOf h m r sources =
-    (actions : List Action) (moments : ℕ → ℕ) → Remembers h m.writes (key_of h.seq r) actions moments
-    → WasFound m.image m.writes actions moments (key_of h.seq r) r.body sources
+abbrev pub FoundOf : HartView → History → (seq : ℕ) → Record → Sources → Type 0
+FoundOf h m seq r sources =
+    (actions : List Action) (moments : ℕ → ℕ) → Remembers h m.writes (key_of seq r) actions moments
+    → WasFound m.image m.writes actions moments (key_of seq r) r.body sources
 
 -- the record was judged, at some moment
-pub was_judged : KnowsAtNext → (h : HartView) (m : History) (s : Setting) (r : Record) (sources : Sources) → FoundOf h m r sources → Meets h m s r → (moment : ℕ) × WasJudged s r moment sources
-was_judged law h m s r sources found meets =
-    let there = found (did s) s.moments (remembers law h m s r meets) in
-    let its = subst (λ n. WasFound m.image m.writes (did s) s.moments (key_of n r) r.body sources) meets.stands.seq there in
-    let over = subst (λ (ws : List Write). WasFound m.image ws (did s) s.moments (key_in s r) r.body sources) (sym meets.writes) its in
+pub was_judged : KnowsAtNext → (h : HartView) (m : History) (s : Setting) (seq : ℕ) (r : Record) (sources : Sources) → seq ≡ h.seq → FoundOf h m seq r sources → Meets h m s r → (moment : ℕ) × WasJudged s r moment sources
+was_judged law h m s seq r sources is found meets =
+    let its : FoundOf h m (length s.before) r sources = subst (λ n. FoundOf h m n r sources) (is ∙ meets.stands.seq) found in
+    let there = its (did s) s.moments (remembers law h m s r meets) in
+    let over = subst (λ (ws : List Write). WasFound m.image ws (did s) s.moments (key_in s r) r.body sources) (sym meets.writes) there in
     let all = subst (λ (bytes : List ℕ). WasFound bytes s.writes (did s) s.moments (key_in s r) r.body sources) (sym meets.image) over in
     let read = read_action s (does s r) sources all.is_read in
     (read.0, record { is_read = read.1; is_drained = all.is_drained })

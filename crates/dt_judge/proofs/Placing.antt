@@ -10,7 +10,6 @@ use Rattle.dt_judge.proofs.Widths.{retired_width, aligned_is_placed}
 
 -- Which plans records of loads and stores have, and where these access memory.
 
-
 pub differs : (a b : ℕ) → (a == b) ≡ false → a ≡ b → ⊥
 differs a b test same = grind (arith, nat_tests)
 

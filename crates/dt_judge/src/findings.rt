@@ -32,12 +32,27 @@ pub fn finding(h: &Hart, m: &Moments, key: Key, event: &Record) -> Result<Passed
     let seen = seen_until(m, key);
     match &event.body {
         Body::Commit { retire } => commit(h, m, seen, key, *retire),
-        Body::Trap { pc, bits, cause, tval } => trap(h, m, seen, *pc, *bits, *cause, *tval),
+        Body::Trap {
+            pc,
+            bits,
+            cause,
+            tval,
+        } => trap(h, m, seen, *pc, *bits, *cause, *tval),
         Body::Regs { pc, x } => fine(shows_registers(h.arch(), *pc, x)),
         Body::Csrs { mode, v } => fine(shows_csrs(h.arch(), *mode, v)),
         Body::Load { retire, at, paddr } => load(h, m, seen, key, *retire, *at, *paddr),
-        Body::Store { pc, bits, paddr, value } => store(h, m, seen, *pc, *bits, *paddr, *value),
-        Body::Drain { line, mask, count, bytes } => drain(h, *line, *mask, *count, bytes, key.seq),
+        Body::Store {
+            pc,
+            bits,
+            paddr,
+            value,
+        } => store(h, m, seen, *pc, *bits, *paddr, *value),
+        Body::Drain {
+            line,
+            mask,
+            count,
+            bytes,
+        } => drain(h, *line, *mask, *count, bytes, key.seq),
         Body::Atomic { .. } | Body::Refill { .. } | Body::Beat => Ok(PLAIN),
     }
 }

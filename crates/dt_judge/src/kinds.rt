@@ -39,13 +39,7 @@ pub fn fine(checked: Result<(), Misfit>) -> Result<Passed, Misfit>
     Ok(PLAIN)
 }
 
-pub fn commit(
-    h: &Hart,
-    m: &Moments,
-    seen: Span,
-    key: Key,
-    retire: Retire,
-) -> Result<Passed, Misfit>
+pub fn commit(h: &Hart, m: &Moments, seen: Span, key: Key, retire: Retire) -> Result<Passed, Misfit>
     requires within { seen.last ≤ length m.now.writes }
     requires instruction { IsTrue (is_instruction retire.bits) }
     ensures finds { (actions : List Action) (moments : ℕ → ℕ) (reserved : Option (ℕ × Key)) → Keeps h.now.stores actions → result ≡ commit_finding (unfenced h.now m.now seen actions moments reserved) key retire }
@@ -104,11 +98,7 @@ fn stored(
     ensures placed { OnOk result (IsPlacedBy st.plan paddr) }
 {
     match st.plan {
-        Planned::NeedsStore {
-            va,
-            value: due,
-            ..
-        } => {
+        Planned::NeedsStore { va, value: due, .. } => {
             let args = walk_args(h.arch(), Access::Store, va);
             let older = address(m, seen, args, false, paddr)?;
             store_data(due, value)?;

@@ -6,7 +6,7 @@ ghost use Rattle.dt_record.specs.Actions.{Action};
 ghost use Rattle.dt_record.specs.Lawful.{is_in_ram, is_instruction};
 ghost use Rattle.dt_checks.specs.Retiring.{AccessesAligned, due_tag};
 ghost use Rattle.dt_hart.specs.Taking.{is_placed_at};
-ghost use Rattle.dt_loads.specs.Reading.{ask_of};
+ghost use Rattle.dt_loads.specs.Reading.{HasEightPlaces};
 ghost use Rattle.dt_reference.specs.HartActions.{body_action};
 ghost use Rattle.dt_reference.specs.Run.{CanRetire};
 ghost use Rattle.dt_sources.specs.Finding.{is_load_place};
@@ -47,14 +47,12 @@ fn from_device(p: bool, width: u8, signed: bool, value: u64) -> Result<Passed, M
 }
 
 fn with_p(p: bool, found: Result<Passed, Misfit>) -> Result<Passed, Misfit>
-    ensures { result ≡ with_p p found }
+    ensures value { result ≡ with_p p found }
+    ensures places { HasEightPlaces found }
 {
     match found {
         Ok(found) => Ok(Passed {
-            letters: Letters {
-                p,
-                ..found.letters
-            },
+            letters: Letters { p, ..found.letters },
             sources: found.sources,
         }),
         Err(refused) => Err(refused),
@@ -116,7 +114,12 @@ fn loaded(
     ensures read { IfOk result (λ x. (actions : List Action) (moments : ℕ → ℕ) → Remembers h.now m.now.writes key actions moments → IsReadBy m.now.image m.now.writes actions moments st.plan key value at paddr x.sources) }
 {
     match st.plan {
-        Planned::NeedsLoad { va, width, signed, .. } => {
+        Planned::NeedsLoad {
+            va,
+            width,
+            signed,
+            ..
+        } => {
             let args = walk_args(h.arch(), Access::Load, va);
             let older = address(m, seen, args, false, paddr)?;
             let p = st.stale || older;

@@ -11,5 +11,5 @@ returns-in-Trap-clause-finds c = λ actions moments reserved known.
     let h = c.args.h.now in
     let m = c.args.m.now in
     let found = subst (λ (s : Span). c.trap.result ≡ trap_finding (unfenced h m s actions moments reserved) c.in-Trap.pc c.in-Trap.bits c.in-Trap.cause c.in-Trap.tval)
-        c.seen_until-seen.ensures.value (c.trap.ensures actions moments reserved) in
+    c.seen_until-seen.ensures.value (c.trap.ensures actions moments reserved) in
     subst (λ (b : Body). FindsBody (unfenced h m (seen_until m.writes c.args.key) actions moments reserved) c.args.key b c.trap.result) (sym c.in-Trap.is) found

@@ -1,4 +1,4 @@
-use Rattle.std.proofs.Common.{ℕ, ◌≡◌, ◌||◌, true, false, sym, ap, refl, subst, ◌∙◌}
+use Rattle.std.proofs.Common.{ℕ, ◌≡◌, ◌||◌, Bool, true, false, sym, ap, subst, ◌∙◌}
 use Rattle.dt_checks.specs.Addresses.{address_check}
 use Rattle.dt_checks.specs.Translating.{walk_args}
 use Rattle.dt_record.specs.declared.accesses.LoadAsk.{LoadAsk}
@@ -20,7 +20,10 @@ returns-then-is_in_ram-clause-finds c = λ actions moments reserved known.
     let args = c.walk_args-args.ensures.value ∙ ap (λ (a : Arch). walk_args a access.Load c.in-NeedsLoad.va) c.arch.ensures.value in
     let allowed = sym (c.in_ok-older-in-NeedsLoad.ensures.value ∙ ap (λ (a : WalkArgs). address_check m.image m.writes c.args.seen a false c.args.paddr) args) in
     let p : (c.args.st.stale || c.in_ok-older-in-NeedsLoad.older) ≡ c.if-st.p =
-    elim c.if-st.branch [ then-st w ↦ rw (w.if-st.true, w.p-is) refl | else-st w ↦ rw (w.if-st.false, w.p-is) refl ] in
+    elim c.if-st.branch [
+      | then-st w ↦ ap (λ (b : Bool). b || c.in_ok-older-in-NeedsLoad.older) w.if-st.true ∙ sym (w.p-is ∙ w.if-st.true)
+      | else-st w ↦ ap (λ (b : Bool). b || c.in_ok-older-in-NeedsLoad.older) w.if-st.false ∙ sym w.p-is
+    ] in
     let ram = sym c.is_in_ram.ensures ∙ c.if-is_in_ram.true in
     let asked = subst (λ (a : LoadAsk). Remembers h m.writes a.key actions moments) (sym c.load_ask-ask.ensures) known in
     let loads = subst (λ (a : LoadAsk). LoadsRam g c.if-st.p a c.in-NeedsLoad.signed c.args.value c.from_ram.result) c.load_ask-ask.ensures (c.from_ram.ensures.finds c.args.seen actions moments reserved asked) in
