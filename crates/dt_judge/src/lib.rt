@@ -7,6 +7,8 @@ mod judging;
 mod kinds;
 mod loads;
 mod spans;
+#[cfg(test)]
+mod tests;
 
 pub use dt_hart::{Hart, is_built};
 pub use judging::{Judged, judge};
