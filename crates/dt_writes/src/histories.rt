@@ -9,7 +9,8 @@ use dt_record::{Image, Record, Write, write_of};
 use dt_versions::Moments;
 use std::alloc::{AllocError, Global};
 
-/// The memory over time of a file with these records, in the order of the file.
+/// The memory over time of a file with these records, which come in the order of the file. After
+/// want of memory the image is gone.
 pub fn moments_of(alloc: Global, image: Image, records: &[Record]) -> Result<Moments, AllocError>
     requires { AreFileRecords records.now }
     ensures { IfOk result (λ moments. moments ≡ history image (writes_of records.now)) }
