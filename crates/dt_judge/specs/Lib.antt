@@ -1,7 +1,9 @@
 pub mod Atomics
 pub mod Grounds
 pub mod Judgement
+pub mod Judging
 pub mod Kinds
 pub mod Reserving
 pub mod Runs
+pub mod Unfenced
 pub mod Windows

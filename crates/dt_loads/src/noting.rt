@@ -41,8 +41,8 @@ fn is_write(from: Origin) -> bool
     matches!(from, Origin::Write(_))
 }
 
-/// For each of these bytes of the load's line, the key of the write that the load had it from.
-/// Keys at other bytes do not count.
+/// For each byte of the load's line that `read_mask` gives, the key of the write that the load had it
+/// from. Keys at other bytes do not count.
 pub fn read_keys(ask: LoadAsk, sources: Sources) -> [Key; 64]
     requires place { IsTrue (is_load_place ask) }
     ensures { (mask : ℕ) → IsReadMask ask sources mask → NotesReads ask sources mask result }

@@ -1,0 +1,7 @@
+mod Fenceless
+mod LastVisible
+mod Leading
+mod Meeting
+mod Placing
+mod Readings
+mod Widths
