@@ -1,8 +1,9 @@
-use Rattle.std.specs.Prelude.{ℕ, ◌≡◌, Bool, List, Ok, Err, IsTrue}
+use Rattle.std.specs.Prelude.{ℕ, ◌≡◌, Bool, List, Ok, Err, IsTrue, nat_lt}
 use Rattle.std.specs.List.{list_all}
 use Rattle.dt_record.specs.declared.origins.Letters.{Letters}
 use Rattle.dt_record.specs.declared.origins.Sources.{Sources}
 use Rattle.dt_record.specs.declared.records.Record.{Record}
+use Rattle.dt_record.specs.declared.writes.Write.{Write}
 use Rattle.dt_hart.specs.Built.{is_built}
 use Rattle.dt_hart.specs.HartView.{HartView}
 use Rattle.dt_hart.specs.OwnWrites.{GoesOn}
@@ -19,6 +20,10 @@ use Rattle.dt_judge.specs.Judgement.{Finds}
 
 abbrev pub are_built : List Record → Bool
 are_built records = list_all is_built records
+
+-- writes of later cycles than this one
+abbrev pub are_later : ℕ → List Write → Bool
+are_later stamp writes = list_all (λ w. nat_lt stamp w.key.stamp) writes
 
 -- A hart and the memory that it is judged over are those of a setting, with which this record goes on. Only records that
 -- are built were judged before.
