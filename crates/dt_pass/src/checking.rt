@@ -1,4 +1,4 @@
-ghost use Rattle.std.specs.Prelude.{◌≡◌, ◌≢◌, ◌≤◌, IfOk, IfErr, IfSome, Some, Err, length, map, IsTrue};
+ghost use Rattle.std.specs.Prelude.{◌≡◌, ◌≢◌, ◌≤◌, IfOk, IfErr, IfSome, OnOk, Some, None, Err, length, map, IsTrue};
 ghost use Rattle.std.specs.List.{list_all, range_with_len};
 ghost use Rattle.dt_record.specs.Keys.{records_of};
 ghost use Rattle.dt_record.specs.Streams.{IsFresh, Rose};
@@ -25,6 +25,7 @@ use std::alloc::{AllocError, Global};
 pub fn pass<P: Probes>(alloc: Global, image: &Image, probes: &mut P) -> Result<Checked, Refusal>
     requires { IsFresh (P.progress probes.old) }
     ensures checked { IfOk result (λ checked. IsCheckOf image.now (P.left probes.old) (P.progress probes.new) checked) }
+    ensures accepted { OnOk result (IfSome (P.left probes.old) (λ answers. refusal_in answers ≡ None)) }
     ensures refused { IfErr result (λ r. r ≢ refusal.ReadFault → r ≢ refusal.OutOfMemory → IfSome (P.left probes.old) (λ answers. refusal_in answers ≡ Some r)) }
     ensures refused_at { IfErr result (λ r. IsRefusedAt (P.progress probes.new) r) }
     ensures fault { result ≡ Err refusal.ReadFault → Rose (P.faults probes.old) (P.faults probes.new) }

@@ -1,4 +1,4 @@
-ghost use Rattle.std.specs.Prelude.{◌≡◌, ◌≢◌, ◌≤◌, ◌<◌, ◌+◌, ◌++◌, ◌∷◌, [], Some, IfOk, IfErr, IfSome, OnOk, Err, length, MatchResult, false, true};
+ghost use Rattle.std.specs.Prelude.{◌≡◌, ◌≢◌, ◌≤◌, ◌<◌, ◌+◌, ◌++◌, ◌∷◌, [], Some, None, IfOk, IfErr, IfSome, OnOk, Err, length, MatchResult, false, true};
 ghost use Rattle.dt_record.specs.Lawful.{IsLawful};
 ghost use Rattle.dt_record.specs.Streams.{IsFresh, Rose};
 ghost use Rattle.dt_verdict.specs.declared.answers.Refusal.TheVariants as refusal;
@@ -23,6 +23,7 @@ pub(crate) struct Listed {
 pub(crate) fn read_all<P: Probes>(alloc: Global, probes: &mut P) -> Result<Listed, Refusal>
     requires { IsFresh (P.progress probes.old) }
     ensures came { IfOk result (λ l. HasCome (P.left probes.old) (P.progress probes.new) l.harts l.wide l.records.items) }
+    ensures accepted { OnOk result (IfSome (P.left probes.old) (λ answers. refusal_in answers ≡ None)) }
     ensures refused { IfErr result (λ r. r ≢ refusal.ReadFault → r ≢ refusal.OutOfMemory → IfSome (P.left probes.old) (λ answers. refusal_in answers ≡ Some r)) }
     ensures refused_at { IfErr result (λ r. IsRefusedAt (P.progress probes.new) r) }
     ensures fault { result ≡ Err refusal.ReadFault → Rose (P.faults probes.old) (P.faults probes.new) }

@@ -1,6 +1,6 @@
 use Rattle.std.proofs.Common.{List, refl, sym, subst, arith}
 use Rattle.dt_record.specs.declared.records.Record.{Record}
-use Rattle.dt_pass.proofs.Underway.{IsUnderway, after_record, at_end, lawful_next, refused, stands_behind, unbuilt}
+use Rattle.dt_pass.proofs.Underway.{IsUnderway, accepted, after_record, at_end, lawful_next, refused, stands_behind, unbuilt}
 use Rattle.dt_pass.proofs.reading.read_all.Goals as goal
 
 pub list-requires : goal.list-requires
@@ -36,3 +36,7 @@ returns-in-Malformed-clause-refused g c = λ read memory.
 pub returns-in-Limit-clause-refused : goal.returns-in-Limit-clause-refused
 returns-in-Limit-clause-refused g c = λ read memory.
     refused _ _ _ _ _ _ _ _ _ c.loop-harts.invariant.underway c.in-Limit.ensures.told (λ e. cc) (λ e. cc) (λ more. refl)
+
+pub returns-in-End-clause-accepted : goal.returns-in-End-clause-accepted
+returns-in-End-clause-accepted g c =
+    accepted _ _ _ _ _ (at_end _ _ _ _ c.in-End.count _ _ _ _ c.loop-harts.invariant.underway c.in-End.ensures.told c.in-End.ensures.step)
