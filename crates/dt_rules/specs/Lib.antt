@@ -1,3 +1,4 @@
 pub mod Adopted
+pub mod Checks
 pub mod Interrupts
 pub mod Reservations

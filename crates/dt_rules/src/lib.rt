@@ -4,6 +4,7 @@
 #![tactic(auto)]
 
 mod adopted;
+mod misfits;
 mod reservations;
 #[cfg(test)]
 mod tests;
@@ -11,5 +12,6 @@ mod traps;
 
 pub use adopted::{counter, device, pending};
 pub use dt_record::{Letters, Reason};
+pub use misfits::{Misfit, NO_LETTERS, NO_NUMBER, NO_SOURCES};
 pub use reservations::sc_live;
 pub use traps::{interrupt, tval};

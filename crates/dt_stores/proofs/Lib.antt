@@ -1,5 +1,6 @@
 mod ActionLaws
 mod DrainLaws
+mod GoingOn
 mod Lists
 mod MergeLaws
 mod PlanLaws

@@ -38,7 +38,7 @@ still_filled kept actions action none stands line =
     omega arith
 
 -- the stores after an action that is no drain: those before it, and its own
-held_after : (actions : List Action) (action : Action) → ((line : ℕ) → drains_on line (action ∷ []) ≡ [])
+pub held_after : (actions : List Action) (action : Action) → ((line : ℕ) → drains_on line (action ∷ []) ≡ [])
     → held_of (actions ++ action ∷ []) ≡ held_of actions ++ held_from (actions ++ action ∷ []) (stores_of actions) (0 + ww_fences actions) (0 + wr_fences actions) (action ∷ [])
 held_after actions action none =
     held_from-append (actions ++ action ∷ []) [] 0 0 actions (action ∷ [])

@@ -1,4 +1,5 @@
 pub mod Draining
+pub mod GoingOn
 pub mod Kept
 pub mod Oldest
 pub mod Places

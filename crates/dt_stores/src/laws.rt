@@ -2,6 +2,7 @@ ghost use Rattle.std.specs.Prelude.{ℕ, Bool, [], ◌∷◌};
 ghost use Rattle.dt_record.specs.declared.keys.Key.{Key};
 ghost use Rattle.dt_record.specs.declared.accesses.LoadAsk.{LoadAsk};
 ghost use Rattle.dt_record.specs.Actions.{Loaded, Atomic};
+ghost use Rattle.dt_stores.specs.GoingOn.{StoresGoOn};
 ghost use Rattle.dt_stores.specs.Kept.{Kept};
 ghost use Rattle.dt_stores.specs.Standing.{GainsAction};
 
@@ -13,4 +14,10 @@ pub fn loads_keep_stores()
 /// A law: what stands for some actions stands for them and an atomic.
 pub fn atomics_keep_stores()
     ensures { (kept : Kept) (key : Key) (addr width : ℕ) (reads acquires : Bool) → GainsAction kept kept (Atomic key addr width reads acquires) }
+{}
+
+/// A law: a store comes last, a drain takes the first that wait on its line, and any other action
+/// leaves the stores of a hart.
+pub fn stores_go_on()
+    ensures { StoresGoOn }
 {}

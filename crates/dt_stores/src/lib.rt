@@ -15,4 +15,4 @@ mod tests;
 pub use answers::{DrainAnswer, Forward, Which};
 pub use buffer::Stores;
 pub use dt_record::OwnStore;
-pub use laws::{atomics_keep_stores, loads_keep_stores};
+pub use laws::{atomics_keep_stores, loads_keep_stores, stores_go_on};

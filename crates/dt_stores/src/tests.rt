@@ -1,5 +1,6 @@
 use crate::{
     DrainAnswer, Forward, OwnStore, Stores, Which, atomics_keep_stores, loads_keep_stores,
+    stores_go_on,
 };
 use dt_record::Key;
 use std::test::Fail;
@@ -134,4 +135,5 @@ fn a_fence_bars_the_younger_line(rt: HostRuntime) -> Result<(), Fail> {
 fn laws_are_called() {
     loads_keep_stores();
     atomics_keep_stores();
+    stores_go_on();
 }

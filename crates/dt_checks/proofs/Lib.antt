@@ -1,0 +1,4 @@
+mod Accesses
+mod Histories
+mod Places
+mod Retired

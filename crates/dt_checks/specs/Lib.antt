@@ -1,0 +1,6 @@
+pub mod Addresses
+pub mod Fetching
+pub mod Laws
+pub mod Retiring
+pub mod Starting
+pub mod Translating

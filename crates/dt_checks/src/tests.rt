@@ -1,0 +1,213 @@
+ghost use Rattle.std.specs.Prelude.{IsTrue};
+ghost use Rattle.dt_record.specs.Lawful.{is_instruction};
+ghost use Rattle.dt_step.specs.State.{IsArch};
+
+use crate::{FetchSpans, Started, address, half_fetched, start, walk_args};
+use dt_csr::{USER, mstatus};
+use dt_record::{Image, Key, Write};
+use dt_rules::{Misfit, NO_NUMBER, Reason};
+use dt_step::{Arch, Planned, reset};
+use dt_versions::{Moments, Span};
+use dt_walk::{Access, WalkArgs};
+use std::alloc::{AllocError, Global};
+use std::process::Abort;
+use std::test::Fail;
+
+/// The moment before any write.
+const FIRST: Span = Span { first: 0, last: 0 };
+
+/// Memory that begins with a word.
+fn memory(alloc: Global, word: u32) -> Result<Moments, AllocError> {
+    let bytes = Vec::from_slice(alloc, &word.to_le_bytes())?;
+    Ok(Moments::empty(alloc, Image::of(bytes)))
+}
+
+fn refused(reason: Reason, expected: u64, found: u64) -> Result<Started, Misfit> {
+    Err(Misfit {
+        reason,
+        expected,
+        found,
+    })
+}
+
+/// x1 gets 5, and the next instruction is at this address.
+fn five(next: u64) -> Result<Started, Misfit> {
+    let plan = Planned::Done {
+        rd: 1,
+        value: 5,
+        next,
+    };
+    Ok(Started { plan, stale: false })
+}
+
+fn instruction(rt: &impl Abort, bits: u32) -> u32
+    ensures { IsTrue (is_instruction result) }
+{
+    assert!(rt; bits % 4 == 3 || bits < 0x1_0000);
+    bits
+}
+
+/// After a reset, with this word in memory.
+#[test]
+fn instructions_that_start(rt: HostRuntime) -> Result<(), Fail> {
+    let a = reset(0);
+    let spans = FetchSpans {
+        first: FIRST,
+        second: FIRST,
+        since: FIRST,
+    };
+    for (word, pc, bits, tag, expected) in [
+        (0x0050_0093, 0x8000_0000, 0x0050_0093, 1, five(0x8000_0004)),
+        (0xffff_4095, 0x8000_0000, 0x4095, 1, five(0x8000_0002)),
+        (
+            0x0050_0093,
+            0x8000_0004,
+            0x0050_0093,
+            1,
+            refused(Reason::Pc, 0x8000_0000, 0x8000_0004),
+        ),
+        (
+            0x0050_0093,
+            0x8000_0000,
+            0x0050_0193,
+            1,
+            refused(Reason::Fetch, 0x8000_0000, 0x0193),
+        ),
+        (
+            0x0050_0093,
+            0x8000_0000,
+            0x0051_0093,
+            1,
+            refused(Reason::Fetch, 0x8000_0002, 0x0051),
+        ),
+        (
+            0x0000_0000,
+            0x8000_0000,
+            0x0000_0000,
+            1,
+            refused(Reason::Raises, 2, NO_NUMBER),
+        ),
+        (
+            0x0000_0073,
+            0x8000_0000,
+            0x0000_0073,
+            1,
+            refused(Reason::Raises, 11, NO_NUMBER),
+        ),
+        (
+            0x1002_b403,
+            0x8000_0000,
+            0x1002_b403,
+            1,
+            refused(Reason::Kind, 5, 1),
+        ),
+    ] {
+        let m = memory(rt.alloc(), word)?;
+        let answer = start(&m, spans, &a, pc, instruction(&rt, bits), tag);
+        assert_eq!(rt; answer, expected, "{bits:x} as {tag}");
+    }
+    Ok(())
+}
+
+/// A write makes the first halfword 0 at moment 1.
+#[test]
+fn an_older_halfword_is_told(rt: HostRuntime) -> Result<(), Fail> {
+    let mut m = memory(rt.alloc(), 0x4095)?;
+    let cleared = Write {
+        key: Key {
+            stamp: 1,
+            hart: 0,
+            seq: 0,
+        },
+        line: 0x8000_0000,
+        mask: 3,
+        bytes: [0; 64],
+    };
+    assert!(rt; m.can_add(&cleared));
+    m.add(cleared)?;
+    let a = reset(0);
+    for (half, first, expected) in [
+        (0x4095, 0, Ok(true)),
+        (0x0000, 0, Ok(false)),
+        (
+            0x4095,
+            1,
+            Err(Misfit {
+                reason: Reason::Fetch,
+                expected: 0x8000_0000,
+                found: 0x4095,
+            }),
+        ),
+    ] {
+        let since = Span { first, last: 1 };
+        assert!(rt; since.last <= m.count());
+        let answer = half_fetched(&m, FIRST, since, &a, 0x8000_0000, half);
+        assert_eq!(rt; answer, expected, "{half:x} from {first}");
+    }
+    Ok(())
+}
+
+/// In M with MPRV and the MPP of U, with page tables of three levels from 80002000 on.
+fn lending(rt: &impl Abort) -> Arch
+    ensures { IsArch result }
+{
+    let status = 0x2_0000;
+    assert!(rt; mstatus::MPP.get(status) != mstatus::RESERVED_MODE);
+    let mut a = reset(0);
+    a.csrs.mstatus = status;
+    a.csrs.satp = 0x8000_0000_0008_0002;
+    a
+}
+
+#[test]
+fn stores_of_m_are_translated_for_u(rt: HostRuntime) {
+    let a = lending(&rt);
+    let store = WalkArgs {
+        va: 0x1234,
+        root: 0x8000_2000,
+        on: true,
+        levels: 3,
+        access: Access::Store,
+        mode: USER,
+        sum: false,
+        mxr: false,
+    };
+    assert_eq!(rt; walk_args(&a, Access::Store, 0x1234), store);
+    let fetch = walk_args(&a, Access::Fetch, 0x1234);
+    assert_eq!(rt; (fetch.on, fetch.mode), (false, 3));
+}
+
+#[test]
+fn untranslated_addresses(rt: HostRuntime) -> Result<(), Fail> {
+    let m = memory(rt.alloc(), 0)?;
+    let a = reset(0);
+    for (va, paddr, ram_only, expected) in [
+        (0x8000_0100, 0x8000_0100, true, Ok(false)),
+        (0x1000_0000, 0x1000_0000, false, Ok(false)),
+        (
+            0x8000_0100,
+            0x8000_0108,
+            true,
+            Err((0x8000_0100, 0x8000_0108)),
+        ),
+        (
+            0x1000_0000,
+            0x1000_0000,
+            true,
+            Err((NO_NUMBER, 0x1000_0000)),
+        ),
+    ] {
+        let args = walk_args(&a, Access::Load, va);
+        let expected = expected.map_err(|(expected, found)| Misfit {
+            reason: Reason::Address,
+            expected,
+            found,
+        });
+        assert_eq!(rt;
+            address(&m, FIRST, args, ram_only, paddr),
+            expected,
+            "{va:x}"
+        );
+    }
+    Ok(())
+}

@@ -1,0 +1,83 @@
+ghost use Rattle.std.specs.Prelude.{◌≡◌, ◌==◌, length, Ok};
+ghost use Rattle.dt_record.specs.declared.reasons.Reason.TheVariants.{State};
+ghost use Rattle.dt_csr.specs.Kept.{values_of};
+ghost use Rattle.dt_rules.specs.Checks.{misfit, check};
+ghost use Rattle.dt_commits.specs.States.{state_check, registers_check, csrs_check};
+
+use dt_csr::Csrs;
+use dt_rules::{Misfit, Reason};
+use dt_step::Arch;
+
+/// Whether a hart has this pc and these values of x1 to x31. Expected and found are the first two
+/// numbers that differ.
+pub fn shows_registers(a: &Arch, pc: u64, x: &[u64; 31]) -> Result<(), Misfit>
+    ensures { result ≡ registers_check a.now pc x.now }
+{
+    let (_, from_x1) = a.x.split_at(1);
+    are_shown(a.pc, from_x1, pc, x)
+}
+
+/// Whether a hart is in this mode and its registers of control and status have these values: the 17
+/// that are kept, in the order of a record of them. Expected and found are the first two that differ.
+pub fn shows_csrs(a: &Arch, mode: u8, v: &[u64; 17]) -> Result<(), Misfit>
+    ensures { result ≡ csrs_check a.now mode v.now }
+{
+    are_shown(u64::from(a.mode), &kept_values(&a.csrs), u64::from(mode), v)
+}
+
+/// Whether a first number and those after it are the ones that are due.
+fn are_shown(due: u64, dues: &[u64], found: u64, more: &[u64]) -> Result<(), Misfit>
+    requires { length dues.now ≡ length more.now }
+    ensures { result ≡ check (due == found) (misfit State due found) (state_check dues.now more.now) }
+{
+    if due != found {
+        return Err(differs(due, found));
+    }
+    are_same(dues, more)
+}
+
+fn are_same(dues: &[u64], found: &[u64]) -> Result<(), Misfit>
+    requires { length dues.now ≡ length found.now }
+    ensures { result ≡ state_check dues.now found.now }
+{
+    for i in 0..dues.len() {
+        if dues[i] != found[i] {
+            return Err(differs(dues[i], found[i]));
+        }
+    }
+    Ok(())
+}
+
+fn differs(due: u64, found: u64) -> Misfit
+    ensures { result ≡ misfit State due found }
+{
+    Misfit {
+        reason: Reason::State,
+        expected: due,
+        found,
+    }
+}
+
+fn kept_values(c: &Csrs) -> [u64; 17]
+    ensures { result ≡ values_of c.now }
+{
+    [
+        c.mstatus,
+        c.medeleg,
+        c.mideleg,
+        c.mie,
+        c.mtvec,
+        c.mcounteren,
+        c.mscratch,
+        c.mepc,
+        c.mcause,
+        c.mtval,
+        c.stvec,
+        c.scounteren,
+        c.sscratch,
+        c.sepc,
+        c.scause,
+        c.stval,
+        c.satp,
+    ]
+}

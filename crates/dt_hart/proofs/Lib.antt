@@ -1,0 +1,13 @@
+mod AccessLaws
+mod Bits
+mod BuiltKinds
+mod Earlier
+mod Floors
+mod GoingOn
+mod JudgedOn
+mod KnowingOn
+mod Members
+mod OwnKeys
+mod ReadKeys
+mod SameHart
+mod StoreNumbers

@@ -1,0 +1,16 @@
+use Rattle.std.specs.Prelude.{ℕ, List}
+use Rattle.dt_record.specs.declared.keys.Key.{Key}
+use Rattle.dt_step.specs.declared.state.Arch.{Arch}
+use Rattle.dt_stores.specs.Kept.{Kept}
+
+-- What is kept of a hart (this project's own): its state, how many of its records there were and the stamp of the last
+-- of them, 0 before the first; its store buffer; the newest key that it knows for each byte; the cycle that its next load
+-- may not be below, and the greatest cycle in which it read memory.
+pub record HartView : Type 0 where
+  pub arch : Arch
+  pub seq : ℕ
+  pub stamp : ℕ
+  pub stores : Kept
+  pub keys : List (ℕ × Key)
+  pub floor : ℕ
+  pub last_read : ℕ

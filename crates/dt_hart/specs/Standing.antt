@@ -1,0 +1,34 @@
+use Rattle.std.specs.Prelude.{◌≡◌, None, List, length}
+use Rattle.dt_record.specs.declared.keys.Key.{Key}
+use Rattle.dt_record.specs.declared.records.Record.{Record}
+use Rattle.dt_record.specs.Actions.{order_floor, last_read}
+use Rattle.dt_local.specs.LocalMemory.{local_memory}
+use Rattle.dt_sources.specs.Choice.{ChoosesLeast}
+use Rattle.dt_sources.specs.Knowing.{Knows, AreJudged}
+use Rattle.dt_stores.specs.Standing.{StandsFor as Keeps}
+use Rattle.dt_hart.specs.HartView.{HartView}
+use Rattle.dt_hart.specs.OwnWrites.{GoesOn}
+use Rattle.dt_hart.specs.Settings.{Setting, arch_of, did, key_in, next_key, last_stamp}
+
+-- What is kept of a hart stands for a setting (this project's own): it is what the hart's records before leave, and the
+-- loads among these read at the least moments that fit.
+pub record StandsFor (h : HartView) (s : Setting) : Type 0 where
+  pub seq : h.seq ≡ length s.before
+  pub stamp : h.stamp ≡ last_stamp s.before
+  pub arch : h.arch ≡ arch_of s
+  pub stores : Keeps h.stores (did s)
+  pub knows : Knows (local_memory h.keys None) s.writes (did s) s.moments (next_key s)
+  pub chosen : ChoosesLeast s.image s.writes (did s) s.moments
+  pub judged : AreJudged s.writes (did s) (next_key s)
+  pub floor : h.floor ≡ order_floor (did s)
+  pub last_read : h.last_read ≡ last_read (did s)
+
+-- what local memory and the store buffer know at a next record
+pub record KnowsAt (h : HartView) (s : Setting) (next : Key) : Type 0 where
+  pub knows : Knows (local_memory h.keys None) s.writes (did s) s.moments next
+  pub judged : AreJudged s.writes (did s) next
+
+-- A law: what stands for a setting knows what it has to at the key of the next record, since no own write stands
+-- between the least key that this may have and its own.
+abbrev pub KnowsAtNext : Type 0
+KnowsAtNext = (h : HartView) (s : Setting) (r : Record) → StandsFor h s → GoesOn s r → KnowsAt h s (key_in s r)

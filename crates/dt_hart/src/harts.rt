@@ -1,0 +1,153 @@
+ghost use Rattle.std.specs.Prelude.{◌≡◌, ℕ, ◌+◌, ◌<◌, ◌≤◌, Bool, List, IsTrue, OnOk, OnErr};
+ghost use Rattle.dt_record.specs.declared.writes.Write.{Write};
+ghost use Rattle.dt_record.specs.Lawful.{IsLawful};
+ghost use Rattle.dt_reference.specs.HartActions.{action_of};
+ghost use Rattle.dt_reference.specs.Run.{CanFollow, after_record};
+ghost use Rattle.dt_step.specs.State.{IsArch, IsReachable};
+ghost use Rattle.dt_hart.specs.Built.{is_built};
+ghost use Rattle.dt_hart.specs.OwnWrites.{GoesOn};
+ghost use Rattle.dt_hart.specs.Settings.{Setting, at_first, after};
+ghost use Rattle.dt_hart.specs.Standing.{StandsFor};
+ghost use Rattle.dt_hart.specs.Taking.{WasJudged, is_placed, moment_read};
+
+use crate::accesses::Accesses;
+use crate::reads::ReadFrom;
+use dt_judged::judged_goes_on;
+use dt_local::Local;
+use dt_record::Record;
+use dt_reference::{actions_go_on, advance, start, state_goes_on};
+use dt_sources::{knowing_goes_on, least_choice_goes_on, notes_are_added};
+use dt_step::Arch;
+use dt_stores::Stores;
+use std::alloc::{AllocError, Global};
+use std::marker::Model;
+
+/// One hart while its records are judged.
+#[derive(Debug, Drop)]
+pub struct Hart {
+    arch: Arch,
+    seq: u32,
+    /// The stamp of the last record, 0 before the first.
+    stamp: u64,
+    accesses: Accesses,
+}
+
+impl Model for Hart {
+    ghost use Rattle.dt_step.specs.State.{IsArch, IsReachable};
+    ghost use Rattle.dt_hart.specs.HartView.{HartView};
+
+    ghost Value = { HartView };
+
+    ghost view = { λ h. record {
+      arch = h.arch;
+      seq = h.seq;
+      stamp = h.stamp;
+      stores = h.accesses.stores;
+      keys = h.accesses.local.keys;
+      floor = h.accesses.floor;
+      last_read = h.accesses.last_read;
+    } };
+
+    ghost invariant = { λ h. IsArch h.arch × IsReachable h.arch };
+}
+
+impl Hart {
+    /// The hart with this number after a reset, in a file that does or does not let harts use Sv48.
+    pub fn new(alloc: Global, number: u8, wide: bool) -> Hart
+        ensures stands { (image : List ℕ) (writes : List Write) (moments : ℕ → ℕ) → StandsFor result (at_first image writes number wide moments) }
+        ensures number { result.arch.hart ≡ number }
+        ensures first { (result.seq ≡ 0) × (result.stamp ≡ 0) }
+    {
+        Hart {
+            arch: start(number, wide),
+            seq: 0,
+            stamp: 0,
+            accesses: Accesses {
+                stores: Stores::new(alloc),
+                local: Local::new(alloc),
+                floor: 0,
+                last_read: 0,
+            },
+        }
+    }
+
+    /// How many records of the hart were taken, which is the number of the next one.
+    pub fn seq(&self) -> u32
+        ensures { result ≡ self.now.seq }
+    {
+        self.seq
+    }
+
+    /// The stamp of the last record, and 0 before the first.
+    pub fn stamp(&self) -> u64
+        ensures { result ≡ self.now.stamp }
+    {
+        self.stamp
+    }
+
+    /// The hart's number.
+    pub fn number(&self) -> u8
+        ensures { result ≡ self.now.arch.hart }
+    {
+        self.arch.hart
+    }
+
+    /// The reference's state before the next record.
+    pub fn arch(&self) -> &Arch
+        ensures value { result.now ≡ self.now.arch }
+        ensures arch { IsArch result.now }
+        ensures reachable { IsReachable result.now }
+    {
+        &self.arch
+    }
+
+    /// The hart's store buffer.
+    pub fn stores(&self) -> &Stores
+        ensures { result.now ≡ self.now.stores }
+    {
+        &self.accesses.stores
+    }
+
+    /// The newest key that the hart knows for each byte.
+    pub fn local(&self) -> &Local
+        ensures { result.now.keys ≡ self.now.keys }
+    {
+        &self.accesses.local
+    }
+
+    /// The cycle that the hart's next load may not be below.
+    pub fn floor(&self) -> u64
+        ensures { result ≡ self.now.floor }
+    {
+        self.accesses.floor
+    }
+
+    /// Takes the hart's next record, which is allowed. A load from RAM comes with where it read.
+    pub fn take(&mut self, event: &Record, read: Option<ReadFrom>) -> Result<(), AllocError>
+        requires lawful { IsLawful event.now }
+        requires built { IsTrue (is_built event.now) }
+        requires its { event.now.hart ≡ self.old.arch.hart }
+        requires in_time { self.old.stamp ≤ event.now.stamp }
+        requires room { self.old.seq < 4194304 }
+        requires follows { CanFollow self.old.arch event.now.body }
+        requires placed { IsTrue (is_placed (action_of self.old.seq event.now)) }
+        ensures goes_on { OnOk result ((s : Setting) → StandsFor self.old s → GoesOn s event.now → WasJudged s event.now read → StandsFor self.new (after s event.now (moment_read read))) }
+        ensures arch { OnOk result (self.new.arch ≡ after_record self.old.arch event.now) }
+        ensures number { self.new.arch.hart ≡ self.old.arch.hart }
+        ensures counted { OnOk result (self.new.seq ≡ self.old.seq + 1) }
+        ensures stamp { OnOk result (self.new.stamp ≡ event.now.stamp) }
+        ensures unchanged { OnErr result (self.new ≡ self.old) }
+    {
+        state_goes_on();
+        actions_go_on();
+        knowing_goes_on();
+        notes_are_added();
+        least_choice_goes_on();
+        judged_goes_on();
+        self.accesses.take(self.seq, event, read)?;
+        advance(&mut self.arch, event);
+        self.seq += 1;
+        self.stamp = event.stamp;
+        Ok(())
+    }
+}

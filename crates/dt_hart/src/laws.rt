@@ -1,0 +1,13 @@
+//! Laws of the definitions, for the crates above. The functions do nothing.
+ghost use Rattle.dt_hart.specs.Standing.{KnowsAtNext};
+
+use dt_judged::judged_goes_on;
+use dt_sources::knowing_goes_on;
+
+/// What stands for a setting knows what it has to at the key of the next record.
+pub fn known_at_next()
+    ensures { KnowsAtNext }
+{
+    knowing_goes_on();
+    judged_goes_on();
+}

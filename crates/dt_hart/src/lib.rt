@@ -1,0 +1,18 @@
+//! The state of one hart while its records are judged: what its records so far leave, and how it
+//! goes on by a next record that is allowed. Whether a record is allowed is not asked here. The
+//! definitions that the contracts cite stand in `specs/`.
+#![tactic(auto)]
+
+mod accesses;
+mod built;
+mod harts;
+mod laws;
+mod notes;
+mod reads;
+#[cfg(test)]
+mod tests;
+
+pub use built::{is_built, is_placed};
+pub use harts::Hart;
+pub use laws::known_at_next;
+pub use reads::ReadFrom;

@@ -1,0 +1,199 @@
+use Rattle.std.proofs.Common.{ℕ, ◌≡◌, ◌%◌, ◌==◌, true, false, not, Some, None, List, [], ◌∷◌, ◌++◌, length, filter, take, drop, zero, suc, refl, sym, ap, ◌∙◌, subst, inl, inr, IsTrue, arith}
+use Rattle.std.specs.Prelude.{Contains}
+use Rattle.std.specs.Int.{bit_at}
+use Rattle.std.specs.List.{list_all, slice_get}
+use Rattle.std.proofs.Math.Seq.{take-append_seam}
+use Rattle.std.proofs.lemmas.Bool.{cases_Bool, and_parts, and_from, eq-eqb, ne_eqb}
+use Rattle.std.proofs.lemmas.Bool.Decides.{nat_tests}
+use Rattle.std.proofs.lemmas.List.{append-nil, take-append-drop}
+use Rattle.std.proofs.lemmas.List.Elements.{filter-append}
+use Rattle.std.proofs.lemmas.List.Folds.{list_all-append}
+use Rattle.dt_record.specs.declared.keys.Key.{Key}
+use Rattle.dt_record.specs.declared.writes.Write.{Write}
+use Rattle.dt_record.specs.declared.accesses.OwnStore.{OwnStore}
+use Rattle.dt_record.specs.Keys.{key_below, KeyBelow}
+use Rattle.dt_record.specs.Memory.{line_of}
+use Rattle.dt_record.specs.Actions.{Action, Stored, Drained, Fenced, Loaded, Atomic, Held, held_of, held_from, raised, store_covers, ww_fences, wr_fences}
+use Rattle.dt_stores.specs.Kept.{Kept}
+use Rattle.dt_stores.specs.Standing.{StandsFor, stores_of}
+use Rattle.dt_stores.specs.Draining.{is_waiting_on, drained_by}
+use Rattle.dt_stores.specs.Places.{is_store_place}
+use Rattle.dt_stores.specs.Plans.{TakesFirst}
+use Rattle.dt_stores.specs.GoingOn.{StoresGoOn, is_quiet}
+use Rattle.dt_sources.specs.Choice.{then_action}
+use Rattle.dt_sources.specs.Finding.{are_apart}
+use Rattle.dt_sources.specs.Knowing.{WroteBefore, AreJudged}
+use Rattle.dt_judged.specs.Covering.{taken_by, DrainsCoverStores}
+use Rattle.dt_judged.specs.GoingOn.{IsOnward, IsNewNumber, IsAllowedDrain, JudgedGoesOn}
+use Rattle.dt_judged.proofs.Covered.{taken_parts}
+use Rattle.dt_judged.proofs.Elements.{before_or_last, kept_or_mapped, IsMapped, front_get, passing_place, all_pass}
+
+-- How the actions of a hart go on being judged.
+
+below_onward : (a b c : Key) → KeyBelow a b → key_below c b ≡ false → KeyBelow a c
+below_onward a b c below above = grind (arith, nat_tests)
+
+carried : (writes : List Write) (next after : Key) (byte : ℕ) (key : Key) → IsOnward next after → WroteBefore writes next byte key → WroteBefore writes after byte key
+carried writes next after byte key onward wrote = record {
+  write = wrote.write;
+  there = wrote.there;
+  is_its = wrote.is_its;
+  own = wrote.own ∙ onward.hart;
+  before = below_onward key next after wrote.before onward.rises;
+  covering = wrote.covering;
+}
+
+with_more : (writes more : List Write) (next : Key) (byte : ℕ) (key : Key) → ((w : Write) → Contains writes w → Contains more w) → WroteBefore writes next byte key → WroteBefore more next byte key
+with_more writes more next byte key each wrote = record {
+  write = wrote.write;
+  there = each wrote.write wrote.there;
+  is_its = wrote.is_its;
+  own = wrote.own;
+  before = wrote.before;
+  covering = wrote.covering;
+}
+
+-- the same stores after other actions
+same_stores : (writes : List Write) (actions others : List Action) (next after : Key) → AreJudged writes actions next → IsOnward next after
+    → stores_of others ≡ stores_of actions → held_of others ≡ held_of actions → AreJudged writes others after
+same_stores writes actions others next after judged onward stores held = record {
+  apart = ap are_apart stores ∙ judged.apart;
+  placed = ap (list_all is_store_place) stores ∙ judged.placed;
+  drained = λ i h key byte there taken covering.
+      carried writes next after byte key onward (judged.drained i h key byte (ap (λ l. slice_get l i) (sym held) ∙ there) taken covering);
+}
+
+no_store : (action : Action) → IsTrue (is_quiet action) → stores_of (action ∷ []) ≡ []
+no_store (Stored s) quiet = absurd (cc quiet)
+no_store (Drained key line count) quiet = refl
+no_store (Fenced ww wr rr) quiet = refl
+no_store (Loaded ask) quiet = refl
+no_store (Atomic key addr width reads acquires) quiet = refl
+
+quiet_goes_on : StoresGoOn → (writes : List Write) (actions : List Action) (action : Action) (next after : Key)
+    → AreJudged writes actions next → IsOnward next after → IsTrue (is_quiet action) → AreJudged writes (then_action actions action) after
+quiet_goes_on laws writes actions action next after judged onward quiet =
+    same_stores writes actions (then_action actions action) next after judged onward
+    (laws.stores actions action ∙ ap (λ l. stores_of actions ++ l) (no_store action quiet) ∙ append-nil (stores_of actions))
+    (laws.quiet actions action quiet)
+
+-- stores stay apart from one with a new number
+apart_from_last : (xs : List OwnStore) (s : OwnStore) → are_apart xs ≡ true → list_all (λ t. not (t.seq == s.seq)) xs ≡ true → are_apart (xs ++ s ∷ []) ≡ true
+apart_from_last [] s apart new = refl
+apart_from_last (x ∷ xs) s apart new =
+    let here = and_parts (list_all (λ t. not (x.seq == t.seq)) xs) (are_apart xs) apart in
+    let ends = and_parts (not (x.seq == s.seq)) (list_all (λ t. not (t.seq == s.seq)) xs) new in
+    and_from (list_all (λ t. not (x.seq == t.seq)) (xs ++ s ∷ [])) (are_apart (xs ++ s ∷ []))
+    (list_all-append (λ t. not (x.seq == t.seq)) xs (s ∷ []) ∙ and_from (list_all (λ t. not (x.seq == t.seq)) xs) (list_all (λ t. not (x.seq == t.seq)) (s ∷ [])) here.0 (and_from (not (x.seq == s.seq)) true ends.0 refl))
+    (apart_from_last xs s here.1 ends.1)
+
+stored_goes_on : StoresGoOn → (kept : Kept) (writes : List Write) (actions : List Action) (s : OwnStore) (next after : Key) → StandsFor kept actions
+    → AreJudged writes actions next → IsOnward next after → IsTrue (is_store_place s) → IsNewNumber actions s.seq
+    → AreJudged writes (then_action actions (Stored s)) after
+stored_goes_on laws kept writes actions s next after stands judged onward placed new = record {
+  apart = ap are_apart (laws.stores actions (Stored s)) ∙ apart_from_last (stores_of actions) s judged.apart
+      (all_pass (λ t. not (t.seq == s.seq)) (stores_of actions) (λ t among. ap not (ne_eqb t.seq s.seq (new t among))));
+  placed = ap (list_all is_store_place) (laws.stores actions (Stored s)) ∙ list_all-append is_store_place (stores_of actions) (s ∷ [])
+      ∙ and_from (list_all is_store_place (stores_of actions)) (list_all is_store_place (s ∷ [])) judged.placed (and_from (is_store_place s) true placed refl);
+  drained = λ i h key byte there taken covering.
+      let last : Held = record { store = s; barrier = ww_fences actions; readers = wr_fences actions; drained = None } in
+      elim (before_or_last (held_of actions) last i h (ap (λ l. slice_get l i) (sym (laws.stored kept actions s stands)) ∙ there)) [
+        | inl earlier ↦ carried writes next after byte key onward (judged.drained i h key byte earlier taken covering)
+        | inr here ↦ absurd (let free : None ≡ Some key = ap (λ (b : Held). b.drained) here ∙ taken in cc free)
+      ];
+}
+
+-- a store among placed ones is placed
+placed_there : (all : List Action) (seen : List OwnStore) (ww wr : ℕ) (xs : List Action) (i : ℕ) (h : Held)
+    → list_all is_store_place (stores_of xs) ≡ true → slice_get (held_from all seen ww wr xs) i ≡ Some h → is_store_place h.store ≡ true
+placed_there all seen ww wr [] i h placed there = absurd (cc there)
+placed_there all seen ww wr (Stored s ∷ xs) zero h placed there =
+    let same : s ≡ h.store = cc there in
+    ap is_store_place (sym same) ∙ (and_parts (is_store_place s) (list_all is_store_place (stores_of xs)) placed).0
+placed_there all seen ww wr (Stored s ∷ xs) (suc i) h placed there =
+    placed_there all (seen ++ s ∷ []) ww wr xs i h (and_parts (is_store_place s) (list_all is_store_place (stores_of xs)) placed).1 there
+placed_there all seen ww wr (Drained key line count ∷ xs) i h placed there = placed_there all seen ww wr xs i h placed there
+placed_there all seen ww wr (Fenced fence_ww fence_wr fence_rr ∷ xs) i h placed there = placed_there all seen (raised ww fence_ww) (raised wr fence_wr) xs i h placed there
+placed_there all seen ww wr (Loaded ask ∷ xs) i h placed there = placed_there all seen ww wr xs i h placed there
+placed_there all seen ww wr (Atomic key addr width reads acquires ∷ xs) i h placed there = placed_there all seen ww wr xs i h placed there
+
+-- those that wait before the place are the first so many
+first_are_taken : (line count end : ℕ) (held : List Held) → length (filter (is_waiting_on line) (take end held)) ≡ count
+    → take count (filter (is_waiting_on line) held) ≡ filter (is_waiting_on line) (take end held)
+first_are_taken line count end held enough =
+    let front : List Held = filter (is_waiting_on line) (take end held) in
+    let rest : List Held = filter (is_waiting_on line) (drop end held) in
+    ap (λ l. take count (filter (is_waiting_on line) l)) (sym (take-append-drop end held))
+    ∙ ap (take count) (filter-append (is_waiting_on line) (take end held) (drop end held))
+    ∙ ap (λ n. take n (front ++ rest)) (sym enough) ∙ take-append_seam front rest
+
+-- the write of a drain covers the stores that the drain takes
+wrote_by : DrainsCoverStores → (writes : List Write) (actions : List Action) (line count : ℕ) (next after : Key) (i : ℕ) (h : Held) (byte : ℕ)
+    → IsOnward next after → KeyBelow next after → IsAllowedDrain writes actions next line count
+    → slice_get (taken_by actions line count) i ≡ Some h → IsTrue (is_store_place h.store) → IsTrue (store_covers byte h.store) → WroteBefore writes after byte next
+wrote_by covers_stores writes actions line count next after i h byte onward later allowed there placed covering =
+    let w : Write = allowed.write in
+    let covered = covers_stores actions line count w.mask allowed.bytes i h byte allowed.took there placed covering in
+    record {
+      write = w;
+      there = allowed.there;
+      is_its = allowed.is_its;
+      own = onward.hart;
+      before = later;
+      covering = and_from (w.line == line_of byte) (bit_at w.mask (byte % 64) == 1)
+          (eq-eqb w.line (line_of byte) (allowed.on_line ∙ sym covered.0)) (eq-eqb (bit_at w.mask (byte % 64)) 1 covered.1);
+    }
+
+drained_goes_on : StoresGoOn → DrainsCoverStores → (kept : Kept) (writes : List Write) (actions : List Action) (line count : ℕ) (next after : Key) → StandsFor kept actions
+    → AreJudged writes actions next → IsOnward next after → KeyBelow next after → IsAllowedDrain writes actions next line count
+    → AreJudged writes (then_action actions (Drained next line count)) after
+drained_goes_on laws covers_stores kept writes actions line count next after stands judged onward later allowed =
+    let stores : stores_of (then_action actions (Drained next line count)) ≡ stores_of actions = laws.stores actions (Drained next line count) ∙ append-nil (stores_of actions) in
+    record {
+      apart = ap are_apart stores ∙ judged.apart;
+      placed = ap (list_all is_store_place) stores ∙ judged.placed;
+      drained = λ i h key byte there taken covering. elim (kept_or_mapped (drained_by line next) takes.end (held_of actions) i h (ap (λ l. slice_get l i) (sym takes.after) ∙ there)) [
+        | inl earlier ↦ carried writes next after byte key onward (judged.drained i h key byte earlier taken covering)
+        | inr mapped ↦ by_cases i h key byte mapped taken covering
+      ];
+    }
+  where
+    takes : TakesFirst line next count (held_of actions) (held_of (then_action actions (Drained next line count)))
+    takes = laws.drained kept actions next line count stands (taken_parts (held_of actions) line count allowed.write.mask allowed.bytes allowed.took).enough
+
+    now_taken : (i : ℕ) (g : Held) (byte : ℕ) → slice_get (take takes.end (held_of actions)) i ≡ Some g → is_waiting_on line g ≡ true → IsTrue (store_covers byte g.store) → WroteBefore writes after byte next
+    now_taken i g byte there waits covering =
+        let place = passing_place (is_waiting_on line) (take takes.end (held_of actions)) i g there waits in
+        let among : slice_get (taken_by actions line count) place.0 ≡ Some g = ap (λ l. slice_get l place.0) (first_are_taken line count takes.end (held_of actions) takes.enough) ∙ place.1 in
+        wrote_by covers_stores writes actions line count next after place.0 g byte onward later allowed among
+        (placed_there actions [] 0 0 actions i g judged.placed (front_get takes.end (held_of actions) i g there)) covering
+
+    by_cases : (i : ℕ) (h : Held) (key : Key) (byte : ℕ) → IsMapped (drained_by line next) (take takes.end (held_of actions)) i h
+        → h.drained ≡ Some key → IsTrue (store_covers byte h.store) → WroteBefore writes after byte key
+    by_cases i h key byte mapped taken covering =
+        let g : Held = mapped.from in
+        elim (cases_Bool (is_waiting_on line g)) [
+          | inl waits ↦
+              let gives : record g { drained = Some next } ≡ h = rw waits at mapped.gives in
+              let its : next ≡ key = (let both : Some next ≡ Some key = ap (λ (b : Held). b.drained) gives ∙ taken in cc both) in
+              let same : g.store ≡ h.store = ap (λ (b : Held). b.store) gives in
+              subst (WroteBefore writes after byte) its (now_taken i g byte mapped.there waits (ap (store_covers byte) same ∙ covering))
+          | inr other ↦
+              let same : g ≡ h = rw other at mapped.gives in
+              let there : slice_get (held_of actions) i ≡ Some h = front_get takes.end (held_of actions) i g mapped.there ∙ ap (λ (b : Held). Some b) same in
+              carried writes next after byte key onward (judged.drained i h key byte there taken covering)
+        ]
+
+pub onward_laws : StoresGoOn → DrainsCoverStores → JudgedGoesOn
+onward_laws laws covers_stores = record {
+  at_first = λ writes next. record { apart = refl; placed = refl; drained = λ i h key byte there taken covering. absurd (cc there) };
+  more_writes = λ writes more actions next judged each. record {
+    apart = judged.apart;
+    placed = judged.placed;
+    drained = λ i h key byte there taken covering. with_more writes more next byte key each (judged.drained i h key byte there taken covering);
+  };
+  other_record = λ writes actions next after judged onward. same_stores writes actions actions next after judged onward refl refl;
+  quiet = quiet_goes_on laws;
+  stored = stored_goes_on laws;
+  drained = drained_goes_on laws covers_stores;
+}

@@ -1,0 +1,6 @@
+mod FoundValues
+mod LastVisible
+mod Lines
+mod NewerWrites
+mod Notes
+mod OneAnswer

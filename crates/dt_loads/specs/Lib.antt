@@ -1,0 +1,4 @@
+pub mod Checks
+pub mod Newer
+pub mod Noting
+pub mod Reading

@@ -1,0 +1,30 @@
+use dt_record::{Letters, Origin, Reason, Sources};
+
+/// Why a record is not allowed: the first check that it fails, what that check expected and what it
+/// found. docs/JUDGEMENT.md says for each reason what the two numbers are.
+#[derive(Clone, Copy, Debug, PartialEq, Eq)]
+pub struct Misfit {
+    pub reason: Reason,
+    pub expected: u64,
+    pub found: u64,
+}
+
+/// What stands in a misfit in the place of a number that there is not. This project's own.
+pub const NO_NUMBER: u64 = 0xffff_ffff_ffff_ffff;
+
+/// The letters of a record that no rule had to settle.
+pub const NO_LETTERS: Letters = Letters {
+    l: false,
+    s: false,
+    p: false,
+    i: false,
+    d: false,
+    c: false,
+    z: false,
+};
+
+/// The sources of a record that read nothing from RAM.
+pub const NO_SOURCES: Sources = Sources {
+    count: 0,
+    from: [Origin::Image; 8],
+};

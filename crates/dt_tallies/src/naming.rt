@@ -1,0 +1,38 @@
+ghost use Rattle.std.specs.Prelude.{◌≡◌, OnOk, IfOk};
+ghost use Rattle.dt_tallies.specs.Counting.{is_below};
+ghost use Rattle.dt_tallies.specs.Naming.{has_letter, is_named, named_notes, notes_by_key};
+
+use crate::counting::precedes;
+use dt_record::{Key, Letters, Sources};
+use dt_verdict::{Noted, NotedRecords};
+use std::alloc::AllocError;
+
+/// Whether a report names an allowed record with these letters and sources: one with a letter, or
+/// one that read RAM.
+pub fn is_named(letters: &Letters, sources: &Sources) -> bool
+    ensures { result ≡ is_named letters.now sources.now }
+{
+    has_some(letters) || sources.count != 0
+}
+
+fn has_some(letters: &Letters) -> bool
+    ensures { result ≡ has_letter letters.now }
+{
+    letters.l || letters.s || letters.p || letters.i || letters.d || letters.c || letters.z
+}
+
+/// The notes of all harts, in any order, as a report has them: by key, and with a limit, as the key
+/// of the failing record, only those with a key below it. After want of memory the notes are gone.
+pub fn named(mut notes: Vec<Noted>, limit: Option<Key>) -> Result<NotedRecords, AllocError>
+    ensures { IfOk result (λ records. records ≡ named_notes limit notes.items) }
+{
+    notes.retain(|note| precedes(note.key, limit));
+    sort(&mut notes)?;
+    Ok(NotedRecords::of(notes))
+}
+
+fn sort(notes: &mut Vec<Noted>) -> Result<(), AllocError>
+    ensures { OnOk result (notes.new.items ≡ notes_by_key notes.old.items) }
+{
+    notes.sort_by_key(|note| note.key)
+}

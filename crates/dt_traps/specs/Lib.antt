@@ -1,0 +1,5 @@
+pub mod Faults
+pub mod Instructions
+pub mod Laws
+pub mod Traps
+pub mod Worked

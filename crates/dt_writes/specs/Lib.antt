@@ -1,0 +1,4 @@
+pub mod Apart
+pub mod FileRecords
+pub mod Laws
+pub mod OwnWrites

@@ -1,0 +1,11 @@
+//! The memory over time of a whole probe file: all writes of its records in the order of their
+//! keys, over the image.
+#![tactic(auto)]
+
+mod histories;
+mod laws;
+#[cfg(test)]
+mod tests;
+
+pub use histories::moments_of;
+pub use laws::{own_writes_are_of_records, writes_stand_in_order};
