@@ -255,6 +255,13 @@ impl<J: Judgement> Core<J> {
         self.harts[usize::from(hart)].outcomes().len() as u32
     }
 
+    pub fn outcomes(&self, hart: u8) -> &[bool]
+        requires { hart < length self.now.harts }
+        ensures { (s : HartState J) → slice_get self.now.harts hart ≡ Some s → result.now ≡ s.outcomes }
+    {
+        self.harts[usize::from(hart)].outcomes()
+    }
+
     pub fn step(&mut self, s: &CoreStep) -> Result<(), AllocError>
         requires { IsSafe self.old }
         ensures done { OnOk result (self.new ≡ step_state J.meaning self.old s.now) }

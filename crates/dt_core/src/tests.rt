@@ -3,7 +3,7 @@ ghost use Rattle.std.proofs.Common.{ap, refl};
 ghost use Rattle.dt_versions.specs.History.{writes_until};
 
 use crate::{CoreStep, Judgement, Notes, World, step};
-use dt_record::{Body, Key, Note, Record, Retire, Write};
+use dt_record::{Body, Key, Note, Record, Retire, Write, lawful, write_of};
 use std::alloc::{AllocError, Global};
 use std::test::Fail;
 
@@ -84,8 +84,8 @@ const IDLE_WORKER: [Record; 9] = records![
 ];
 
 /// One write of each hart, in the cycles 1 to 3, and so three up to the cycles 4 and 5. Hart 0: the
-/// third of four, in cycle 4, fails. Hart 1: both pass. Hart 2: the fourth of five, in cycle 5, fails.
-const THREE_HARTS: [Record; 11] = records![
+/// third of four, in cycle 4, fails. Hart 1: both pass. Hart 2: the last of four, in cycle 5, fails.
+const THREE_HARTS: [Record; 10] = records![
     (0, 2, Body::Beat),
     (1, 0, SWAP),
     (1, 1, Body::Beat),
@@ -95,7 +95,6 @@ const THREE_HARTS: [Record; 11] = records![
     (3, 2, Body::Beat),
     (4, 0, Body::Beat),
     (4, 0, Body::Beat),
-    (5, 2, Body::Beat),
     (5, 2, Body::Beat)
 ];
 
@@ -154,13 +153,25 @@ enum Run {
 
 /// The runs of the schedules, and how many records of each hart are judged in the end: up to its
 /// failure, and with it.
-const JUDGED: [(Run, [Option<u32>; 3]); 5] = [
-    (Run::OneHart, [Some(5), None, None]),
-    (Run::IdleWorker, [Some(5), Some(3), None]),
-    (Run::ThreeHarts, [Some(3), Some(2), Some(4)]),
-    (Run::FailureInTheMiddle, [Some(3), Some(5), None]),
-    (Run::WritesOfBoth, [Some(5), Some(5), None]),
+const JUDGED: [(Run, [usize; 3]); 5] = [
+    (Run::OneHart, [5, 0, 0]),
+    (Run::IdleWorker, [5, 3, 0]),
+    (Run::ThreeHarts, [3, 2, 4]),
+    (Run::FailureInTheMiddle, [3, 5, 0]),
+    (Run::WritesOfBoth, [5, 5, 0]),
 ];
+
+fn file_of(run: Run) -> &'static [Record] {
+    match run {
+        Run::TwoBeats => &TWO_BEATS,
+        Run::OneHart => &ONE_HART,
+        Run::IdleWorker => &IDLE_WORKER,
+        Run::ThreeHarts => &THREE_HARTS,
+        Run::FailureInTheMiddle => &FAILURE_IN_THE_MIDDLE,
+        Run::WritesOfBoth => &WRITES_OF_BOTH,
+        Run::NoWrites => &NO_WRITES,
+    }
+}
 
 fn start(alloc: Global, run: Run) -> Result<World<Counted>, AllocError> {
     match run {
@@ -345,13 +356,61 @@ fn finish(alloc: Global, world: &mut World<Counted>) -> Result<(), AllocError> {
     Ok(())
 }
 
-/// Whatever the schedule, the same records are judged, and with the same outcomes: behind a failure
-/// none is. Some are judged before the end.
+/// All writes of a file, in the order of their keys.
+fn all_writes(alloc: Global, file: &[Record]) -> Result<Vec<Write>, AllocError> {
+    let mut writes = Vec::new(alloc);
+    for (place, event) in file.iter().enumerate() {
+        let earlier = file.iter().take(place);
+        let seq = earlier.filter(|other| other.hart == event.hart).count();
+        if let Ok(seq) = u32::try_from(seq)
+            && lawful(event)
+            && let Some(w) = write_of(event, seq)
+        {
+            writes.push(w)?;
+        }
+    }
+    writes.sort_by_key(|w| w.key)?;
+    Ok(writes)
+}
+
+/// What one hart's records are judged to be over all writes of the file, without a schedule: one
+/// after another, up to the first that is not allowed.
+fn outcomes_alone(alloc: Global, file: &[Record], hart: u8) -> Result<Vec<bool>, AllocError> {
+    let writes = all_writes(alloc, file)?;
+    let mut judgement = Counted::start(alloc, hart);
+    let mut outcomes = Vec::new(alloc);
+    for event in file.iter().filter(|event| event.hart == hart) {
+        let allowed = judgement.judge(&writes, event)?;
+        outcomes.push(allowed)?;
+        if !allowed {
+            break;
+        }
+    }
+    Ok(outcomes)
+}
+
+/// The hart's outcomes, of which there is none where there is no such hart.
+fn outcomes(world: &World<Counted>, hart: u8) -> &[bool] {
+    if hart < world.harts() {
+        world.outcomes(hart)
+    } else {
+        &[]
+    }
+}
+
+/// Whatever the schedule, each record's outcome is that of the judgement alone over all writes of
+/// the file: behind a failure none is judged. Some are judged before the end.
 #[test]
 fn every_schedule_judges_alike(rt: HostRuntime) -> Result<(), Fail> {
     let alloc = rt.alloc();
     let mut seed = 20_261_201;
-    for (run, want) in JUDGED {
+    for (run, judged) in JUDGED {
+        let file = file_of(run);
+        let first = outcomes_alone(alloc, file, 0)?;
+        let second = outcomes_alone(alloc, file, 1)?;
+        let third = outcomes_alone(alloc, file, 2)?;
+        let want = [first.as_slice(), second.as_slice(), third.as_slice()];
+        assert_eq!(rt; want.map(|outcomes| outcomes.len()), judged, "{run:?}");
         let mut early: u64 = 0;
         for _ in 0..1000 {
             let mut world = start(alloc, run)?;
@@ -361,7 +420,12 @@ fn every_schedule_judges_alike(rt: HostRuntime) -> Result<(), Fail> {
             }
             early = early.saturating_add(total(&world));
             finish(alloc, &mut world)?;
-            assert_eq!(rt; counts(&world), want, "{run:?}");
+            let found = [
+                outcomes(&world, 0),
+                outcomes(&world, 1),
+                outcomes(&world, 2),
+            ];
+            assert_eq!(rt; found, want, "{run:?}");
         }
         assert!(rt; early > 500, "{run:?}: {early}");
     }

@@ -65,6 +65,14 @@ impl<J: Judgement> World<J> {
     {
         self.core.judged(hart)
     }
+
+    /// Whether each judged record of the hart was allowed, in their order.
+    pub fn outcomes(&self, hart: u8) -> &[bool]
+        requires { hart < length self.now.harts }
+        ensures { (s : HartState J) → slice_get self.now.harts hart ≡ Some s → result.now ≡ s.outcomes }
+    {
+        self.core.outcomes(hart)
+    }
 }
 
 /// Makes a step. One that is not possible changes nothing.

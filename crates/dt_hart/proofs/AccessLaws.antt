@@ -1,20 +1,19 @@
-use Rattle.std.proofs.Common.{ℕ, ◌≡◌, ◌==◌, ◌&&◌, ◌<◌, ◌%◌, ◌↔◌, Bool, true, Option, Some, None, List, [], ◌∷◌, ◌++◌, Result, Ok, Err, max, take, refl, sym, ap, ◌∙◌, subst, inl, inr, arith}
+use Rattle.std.proofs.Common.{ℕ, ◌≡◌, ◌<◌, ◌%◌, true, Option, Some, None, List, [], ◌∷◌, ◌++◌, Result, Ok, Err, max, take, refl, ap, ◌∙◌, arith}
 use Rattle.std.proofs.Math.ListN.{replicate}
 use Rattle.std.specs.Prelude.{if◌then◌else◌, OnOk}
 use Rattle.std.specs.List.{slice_get}
-use Rattle.std.specs.Option.{option_map_or}
 use Rattle.std.specs.declared.alloc.AllocError.{AllocError}
-use Rattle.std.proofs.lemmas.Bool.{cases_Bool}
 use Rattle.std.proofs.lemmas.List.{get_or-replicate, length-replicate}
 use Rattle.std.proofs.lemmas.Option.{slice_get-get_or}
 use Rattle.dt_record.specs.declared.accesses.LoadAsk.{LoadAsk}
 use Rattle.dt_record.specs.declared.keys.Key.{Key}
+use Rattle.dt_record.specs.declared.origins.Sources.{Sources}
 use Rattle.dt_record.specs.declared.records.Body.{Body}
 use Rattle.dt_record.specs.declared.records.Body.TheVariants.{Load, Drain}
 use Rattle.dt_record.specs.declared.records.Retire.{Retire}
 use Rattle.dt_record.specs.Actions.{Action, Drained, Loaded}
 use Rattle.dt_record.specs.Lawful.{is_in_ram}
-use Rattle.dt_local.specs.LocalMemory.{LocalMemory, newest_of, is_noted, noted_key, greater}
+use Rattle.dt_local.specs.LocalMemory.{newest_of, is_noted, noted_key, greater}
 use Rattle.dt_reference.specs.HartActions.{width_of}
 use Rattle.dt_reference.specs.Meaning.{meaning_of}
 use Rattle.dt_stores.specs.declared.answers.DrainAnswer.{DrainAnswer}
@@ -23,7 +22,6 @@ use Rattle.dt_stores.specs.Draining.{drain_answer, OnTook, UnlessOutOfMemory}
 use Rattle.dt_stores.specs.Kept.{Kept}
 use Rattle.dt_stores.specs.Standing.{StandsFor as Keeps, GainsAction}
 use Rattle.dt_hart.specs.declared.accesses.Accesses.{Accesses}
-use Rattle.dt_hart.specs.declared.reads.ReadFrom.{ReadFrom}
 use Rattle.dt_hart.specs.Following.{Follows, read_key, noted_by}
 
 -- What loads and drains leave.
@@ -51,39 +49,38 @@ noted_same line mask key byte =
     rw found refl
 
 -- what a load from RAM noted
-abbrev pub LoadNotes : Accesses → Accesses → (addr width : ℕ) → Option ReadFrom → Type 0
-LoadNotes old new addr width read =
-    (byte : ℕ) → newest_of new.local byte ≡ greater (newest_of old.local byte) (option_map_or (λ (from : ReadFrom). read_key addr (take width from.sources.from) byte) read None)
+abbrev pub LoadNotes : Accesses → Accesses → (addr width : ℕ) → Sources → Type 0
+LoadNotes old new addr width sources =
+    (byte : ℕ) → newest_of new.local byte ≡ greater (newest_of old.local byte) (read_key addr (take width sources.from) byte)
 
-load_noted : (key : Key) (retire : Retire) (at paddr byte : ℕ) (read : Option ReadFrom) → is_in_ram paddr ≡ true
-    → option_map_or (λ (from : ReadFrom). read_key paddr (take (width_of (meaning_of retire.bits)) from.sources.from) byte) read None ≡ noted_by key (Load retire at paddr) read byte
-load_noted key retire at paddr byte None ram = refl
-load_noted key retire at paddr byte (Some from) ram = rw ram refl
+load_noted : (key : Key) (retire : Retire) (at paddr byte : ℕ) (sources : Sources) → is_in_ram paddr ≡ true
+    → read_key paddr (take (width_of (meaning_of retire.bits)) sources.from) byte ≡ noted_by key (Load retire at paddr) sources byte
+load_noted key retire at paddr byte sources ram = rw ram refl
 
 -- the accesses go on by a load from RAM
-pub load_follows : (result : Result (Unit {0}) AllocError) (old new : Accesses) (key : Key) (body : Body) (read : Option ReadFrom) (retire : Retire) (at paddr width : ℕ)
+pub load_follows : (result : Result (Unit {0}) AllocError) (old new : Accesses) (key : Key) (body : Body) (sources : Sources) (retire : Retire) (at paddr width : ℕ)
     → ((kept : Kept) (ask : LoadAsk) → GainsAction kept kept (Loaded ask))
     → body ≡ Load retire at paddr → is_in_ram paddr ≡ true → width ≡ width_of (meaning_of retire.bits)
-    → new.stores ≡ old.stores → OnOk result (LoadNotes old new paddr width read) → new.floor ≡ old.floor → OnOk result (new.last_read ≡ max old.last_read at)
-    → OnOk result (Follows old new key body read)
-load_follows (Ok done) old new key body read retire at paddr width keeps is ram wide stores noted floor last = record {
+    → new.stores ≡ old.stores → OnOk result (LoadNotes old new paddr width sources) → new.floor ≡ old.floor → OnOk result (new.last_read ≡ max old.last_read at)
+    → OnOk result (Follows old new key body sources)
+load_follows (Ok done) old new key body sources retire at paddr width keeps is ram wide stores noted floor last = record {
   stores = λ actions before drained. rw (is, ram, stores) (keeps old.stores _ actions before);
-  keys = λ byte. noted byte ∙ ap (λ (o : Option Key). greater (newest_of old.local byte) o) (rw (is, wide) (load_noted key retire at paddr byte read ram));
+  keys = λ byte. noted byte ∙ ap (λ (o : Option Key). greater (newest_of old.local byte) o) (rw (is, wide) (load_noted key retire at paddr byte sources ram));
   floor = floor;
   last_read = last ∙ rw (is, ram) refl;
 }
-load_follows (Err memory) old new key body read retire at paddr width keeps is ram wide stores noted floor last = tt
+load_follows (Err memory) old new key body sources retire at paddr width keeps is ram wide stores noted floor last = tt
 
 -- the accesses go on by a drain
-pub drain_follows : (result : Result (Unit {0}) AllocError) (old new : Accesses) (key : Key) (body : Body) (read : Option ReadFrom) (line mask count : ℕ) (found : List ℕ)
+pub drain_follows : (result : Result (Unit {0}) AllocError) (old new : Accesses) (key : Key) (body : Body) (sources : Sources) (line mask count : ℕ) (found : List ℕ)
     → body ≡ Drain line mask count found
     → OnOk result ((actions : List Action) (taken : ℕ) (bytes : List ℕ) → Keeps old.stores actions → drain_answer actions line count ≡ answer.Took taken bytes → Keeps new.stores (actions ++ Drained key line count ∷ []))
     → OnOk result ((byte : ℕ) → newest_of new.local byte ≡ greater (newest_of old.local byte) (if is_noted line mask byte then Some key else None))
-    → new.floor ≡ old.floor → new.last_read ≡ old.last_read → OnOk result (Follows old new key body read)
-drain_follows (Ok done) old new key body read line mask count found is stores noted floor last = rw is (record {
+    → new.floor ≡ old.floor → new.last_read ≡ old.last_read → OnOk result (Follows old new key body sources)
+drain_follows (Ok done) old new key body sources line mask count found is stores noted floor last = rw is (record {
   stores = λ actions before drained. stores actions mask found before drained;
   keys = noted;
   floor = floor;
   last_read = last ∙ omega arith;
 })
-drain_follows (Err memory) old new key body read line mask count found is stores noted floor last = tt
+drain_follows (Err memory) old new key body sources line mask count found is stores noted floor last = tt

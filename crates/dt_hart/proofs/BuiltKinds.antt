@@ -1,4 +1,4 @@
-use Rattle.std.proofs.Common.{ℕ, ◌≡◌, ◌+◌, ◌==◌, ◌&&◌, Bool, true, false, not, Option, Some, None, List, take, refl, sym, ap, ◌∙◌, subst, inl, inr, IsTrue, arith}
+use Rattle.std.proofs.Common.{ℕ, ◌≡◌, Option, Some, None, List, take, refl, inl, inr, IsTrue}
 use Rattle.std.proofs.lemmas.Bool.{cases_Bool}
 use Rattle.dt_alu.specs.Extend.{low_bytes_of}
 use Rattle.dt_decode.specs.declared.instructions.Instr.{Instr}
@@ -6,14 +6,14 @@ use Rattle.dt_decode.specs.declared.instructions.Instr.TheVariants.{Fence}
 use Rattle.dt_record.specs.declared.accesses.LoadAsk.{LoadAsk}
 use Rattle.dt_record.specs.declared.accesses.OwnStore.{OwnStore}
 use Rattle.dt_record.specs.declared.keys.Key.{Key}
+use Rattle.dt_record.specs.declared.origins.Sources.{Sources}
 use Rattle.dt_record.specs.declared.records.Body.{Body}
 use Rattle.dt_record.specs.declared.records.Body.TheVariants.{Commit, Trap, Regs, Csrs, Load, Store, Atomic, Drain, Refill, Beat}
-use Rattle.dt_record.specs.Actions.{Action, Stored, Loaded}
+use Rattle.dt_record.specs.Actions.{Stored, Loaded}
 use Rattle.dt_record.specs.Lawful.{is_in_ram}
 use Rattle.dt_record.specs.Writes.{body_write}
 use Rattle.dt_reference.specs.HartActions.{body_action, commit_action, width_of}
 use Rattle.dt_reference.specs.Meaning.{meaning_of}
-use Rattle.dt_hart.specs.declared.reads.ReadFrom.{ReadFrom}
 use Rattle.dt_hart.specs.Built.{is_built_body, is_built_meaning}
 use Rattle.dt_hart.specs.Following.{noted_by, read_at, read_key}
 
@@ -23,7 +23,7 @@ use Rattle.dt_hart.specs.Following.{noted_by, read_at, read_key}
 pub record IsIdle (key : Key) (body : Body) : Type 0 where
   pub action : body_action key body ≡ None
   pub write : body_write key body ≡ None
-  pub noted : (read : Option ReadFrom) (byte : ℕ) → noted_by key body read byte ≡ None
+  pub noted : (sources : Sources) (byte : ℕ) → noted_by key body sources byte ≡ None
   pub read : read_at body ≡ 0
 
 -- a load from RAM
@@ -31,7 +31,7 @@ pub record IsLoad (key : Key) (body : Body) : Type 0 where
   pub ask : LoadAsk
   pub action : body_action key body ≡ Some (Loaded ask)
   pub write : body_write key body ≡ None
-  pub noted : (from : ReadFrom) (byte : ℕ) → noted_by key body (Some from) byte ≡ read_key ask.addr (take ask.width from.sources.from) byte
+  pub noted : (sources : Sources) (byte : ℕ) → noted_by key body sources byte ≡ read_key ask.addr (take ask.width sources.from) byte
   pub its : ask.key ≡ key
   pub read : read_at body ≡ ask.at
 
@@ -40,7 +40,7 @@ pub record IsStore (key : Key) (body : Body) : Type 0 where
   pub store : OwnStore
   pub action : body_action key body ≡ Some (Stored store)
   pub write : body_write key body ≡ None
-  pub noted : (read : Option ReadFrom) (byte : ℕ) → noted_by key body read byte ≡ None
+  pub noted : (sources : Sources) (byte : ℕ) → noted_by key body sources byte ≡ None
   pub its : store.seq ≡ key.seq
   pub read : read_at body ≡ 0
 
@@ -62,43 +62,39 @@ no_fence (Some (Fence fm pred succ)) built = absurd (cc)
 no_fence instr built = refl
 
 load_from_ram : (key : Key) (body : Body) (ask : LoadAsk) → body_action key body ≡ Some (Loaded ask) → body_write key body ≡ None
-    → ((from : ReadFrom) (byte : ℕ) → noted_by key body (Some from) byte ≡ read_key ask.addr (take ask.width from.sources.from) byte)
+    → ((sources : Sources) (byte : ℕ) → noted_by key body sources byte ≡ read_key ask.addr (take ask.width sources.from) byte)
     → ask.key ≡ key → read_at body ≡ ask.at → Kind key body
 load_from_ram key body ask action write noted its read = Loads (record { ask = ask; action = action; write = write; noted = noted; its = its; read = read })
 
 store_to_ram : (key : Key) (body : Body) (store : OwnStore) → body_action key body ≡ Some (Stored store) → body_write key body ≡ None
-    → ((read : Option ReadFrom) (byte : ℕ) → noted_by key body read byte ≡ None) → store.seq ≡ key.seq → read_at body ≡ 0 → Kind key body
+    → ((sources : Sources) (byte : ℕ) → noted_by key body sources byte ≡ None) → store.seq ≡ key.seq → read_at body ≡ 0 → Kind key body
 store_to_ram key body store action write noted its read = Stores (record { store = store; action = action; write = write; noted = noted; its = its; read = read })
-
-device_noted : (key : Key) (body : Body) (read : Option ReadFrom) (byte : ℕ) → ((from : ReadFrom) → noted_by key body (Some from) byte ≡ None) → noted_by key body None byte ≡ None → noted_by key body read byte ≡ None
-device_noted key body None byte some none = none
-device_noted key body (Some from) byte some none = some from
 
 -- every built record is of one of these kinds
 pub kind_of : (key : Key) (body : Body) → IsTrue (is_built_body body) → Kind key body
-kind_of key (Commit retire) built = Idle (record { action = no_fence (meaning_of retire.bits) built; write = refl; noted = λ read byte. refl; read = refl })
-kind_of key (Trap pc bits cause tval) built = Idle (record { action = refl; write = refl; noted = λ read byte. refl; read = refl })
-kind_of key (Regs pc x) built = Idle (record { action = refl; write = refl; noted = λ read byte. refl; read = refl })
-kind_of key (Csrs mode v) built = Idle (record { action = refl; write = refl; noted = λ read byte. refl; read = refl })
+kind_of key (Commit retire) built = Idle (record { action = no_fence (meaning_of retire.bits) built; write = refl; noted = λ sources byte. refl; read = refl })
+kind_of key (Trap pc bits cause tval) built = Idle (record { action = refl; write = refl; noted = λ sources byte. refl; read = refl })
+kind_of key (Regs pc x) built = Idle (record { action = refl; write = refl; noted = λ sources byte. refl; read = refl })
+kind_of key (Csrs mode v) built = Idle (record { action = refl; write = refl; noted = λ sources byte. refl; read = refl })
 kind_of key (Load retire at paddr) built = elim (cases_Bool (is_in_ram paddr)) [
   | inl ram ↦
       let width : ℕ = width_of (meaning_of retire.bits) in
       let ask : LoadAsk = record { key = key; at = at; addr = paddr; width = width; raw = low_bytes_of width retire.value } in
-      load_from_ram key (Load retire at paddr) ask (rw ram refl) refl (λ from byte. rw ram refl) refl (rw ram refl)
+      load_from_ram key (Load retire at paddr) ask (rw ram refl) refl (λ sources byte. rw ram refl) refl (rw ram refl)
   | inr device ↦ Idle (record {
     action = rw device refl;
     write = refl;
-    noted = λ read byte. device_noted key (Load retire at paddr) read byte (λ from. rw device refl) refl;
+    noted = λ sources byte. rw device refl;
     read = rw device refl;
   })
 ]
 kind_of key (Store pc bits paddr value) built = elim (cases_Bool (is_in_ram paddr)) [
   | inl ram ↦
       let store : OwnStore = record { seq = key.seq; addr = paddr; width = width_of (meaning_of bits); value = value } in
-      store_to_ram key (Store pc bits paddr value) store (rw ram refl) refl (λ read byte. refl) refl refl
-  | inr device ↦ Idle (record { action = rw device refl; write = refl; noted = λ read byte. refl; read = refl })
+      store_to_ram key (Store pc bits paddr value) store (rw ram refl) refl (λ sources byte. refl) refl refl
+  | inr device ↦ Idle (record { action = rw device refl; write = refl; noted = λ sources byte. refl; read = refl })
 ]
 kind_of key (Atomic retire paddr width wrote new) built = absurd (cc)
 kind_of key (Drain line mask count bytes) built = Drains (record { line = line; mask = mask; count = count; bytes = bytes; is = refl })
 kind_of key (Refill line bytes) built = absurd (cc)
-kind_of key Beat built = Idle (record { action = refl; write = refl; noted = λ read byte. refl; read = refl })
+kind_of key Beat built = Idle (record { action = refl; write = refl; noted = λ sources byte. refl; read = refl })

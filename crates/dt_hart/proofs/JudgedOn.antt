@@ -1,10 +1,8 @@
-use Rattle.std.proofs.Common.{ℕ, ◌≡◌, Option, Some, List, [], ◌++◌, length, refl, sym, ap, subst, IsTrue, arith}
+use Rattle.std.proofs.Common.{List, ◌++◌, refl, sym, subst, IsTrue, arith}
 use Rattle.std.specs.Option.{option_to_list}
 use Rattle.std.proofs.lemmas.List.{append-nil}
 use Rattle.dt_record.specs.declared.records.Record.{Record}
-use Rattle.dt_record.specs.declared.writes.Write.{Write}
 use Rattle.dt_record.specs.Actions.{Action, Loaded}
-use Rattle.dt_reference.specs.HartActions.{action_of}
 use Rattle.dt_sources.specs.Knowing.{AreJudged, KnowingGoesOn}
 use Rattle.dt_stores.specs.Places.{is_store_place}
 use Rattle.dt_judged.specs.GoingOn.{IsOnward, IsNewNumber, IsAllowedDrain, JudgedGoesOn}

@@ -1,18 +1,18 @@
-use Rattle.std.proofs.Common.{ℕ, ◌≡◌, ◌+◌, ◌≤◌, ◌<◌, ◌==◌, ◌&&◌, Option, Some, None, List, [], ◌∷◌, ◌++◌, length, zero, suc, refl, sym, ap, ◌∙◌, subst, inl, inr, IsTrue, arith}
+use Rattle.std.proofs.Common.{ℕ, ◌≡◌, ◌+◌, ◌≤◌, ◌<◌, ◌==◌, Some, List, [], ◌∷◌, ◌++◌, length, zero, suc, refl, sym, ap, ◌∙◌, subst, inl, inr, IsTrue, arith}
 use Rattle.std.specs.Prelude.{nat_le}
-use Rattle.std.specs.List.{Contains, filter, list_all, slice_get}
+use Rattle.std.specs.List.{Contains, list_all, slice_get}
 use Rattle.std.specs.Option.{option_to_list}
-use Rattle.std.proofs.lemmas.Bool.{and_parts, cases_Bool, leb-true, eq-eqb, eqb-true}
+use Rattle.std.proofs.lemmas.Bool.{and_parts, leb-true, eq-eqb}
 use Rattle.std.proofs.lemmas.List.Elements.{Contains-append_left, Contains-append_right, Contains-append_cases}
 use Rattle.dt_record.specs.declared.keys.Key.{Key}
 use Rattle.dt_record.specs.declared.records.Body.{Body}
 use Rattle.dt_record.specs.declared.records.Body.TheVariants.{Atomic, Drain}
 use Rattle.dt_record.specs.declared.records.Record.{Record}
 use Rattle.dt_record.specs.declared.writes.Write.{Write}
-use Rattle.dt_record.specs.Keys.{key_of}
 use Rattle.dt_record.specs.Writes.{body_write, write_of_record}
-use Rattle.dt_hart.specs.OwnWrites.{own_writes_from, are_rising, are_of, GoesOn}
-use Rattle.dt_hart.specs.Settings.{Setting, stamp_from, last_stamp}
+use Rattle.dt_writes.specs.OwnWrites.{own_writes_from}
+use Rattle.dt_hart.specs.OwnWrites.{are_rising, GoesOn}
+use Rattle.dt_hart.specs.Settings.{Setting, stamp_from}
 use Rattle.dt_hart.proofs.Members.{Contains-filter, Contains-from_filter, Contains-option, option_contains, list_all-at, slice_get-append_seam}
 
 -- The keys of a hart's own writes.

@@ -1,4 +1,4 @@
-use Rattle.std.specs.Prelude.{ℕ, ◌==◌, ◌||◌, Bool, true, false, not, Option, Some, None}
+use Rattle.std.specs.Prelude.{ℕ, ◌==◌, ◌||◌, Bool, true, false, not, Option, Some}
 use Rattle.dt_decode.specs.declared.instructions.Instr.{Instr}
 use Rattle.dt_decode.specs.declared.instructions.Instr.TheVariants.{Csr, Fence, FenceI, Lr, Sc, Amo, SfenceVma}
 use Rattle.dt_record.specs.declared.records.Record.{Record}

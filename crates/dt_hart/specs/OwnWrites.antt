@@ -1,17 +1,11 @@
-use Rattle.std.specs.Prelude.{ℕ, ◌≡◌, ◌+◌, ◌==◌, ◌&&◌, Bool, true, List, [], ◌∷◌, ◌++◌, filter, option_to_list, nat_le, IsTrue}
+use Rattle.std.specs.Prelude.{ℕ, ◌≡◌, ◌==◌, ◌&&◌, Bool, true, List, [], ◌∷◌, ◌++◌, filter, nat_le, IsTrue}
 use Rattle.std.specs.List.{list_all}
 use Rattle.dt_record.specs.declared.records.Record.{Record}
-use Rattle.dt_record.specs.declared.writes.Write.{Write}
-use Rattle.dt_record.specs.Writes.{write_of_record}
 use Rattle.dt_versions.specs.History.{are_in_order}
+use Rattle.dt_writes.specs.OwnWrites.{own_writes_from}
 use Rattle.dt_hart.specs.Settings.{Setting}
 
 -- How a hart's records and its writes among all writes belong together (this project's own).
-
--- the writes of some records of a hart, after so many of its records
-abbrev pub own_writes_from : ℕ → List Record → List Write
-own_writes_from seq [] = []
-own_writes_from seq (r ∷ rs) = option_to_list (write_of_record seq r) ++ own_writes_from (seq + 1) rs
 
 -- no stamp falls
 abbrev pub are_rising : List Record → Bool

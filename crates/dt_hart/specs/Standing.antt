@@ -1,4 +1,4 @@
-use Rattle.std.specs.Prelude.{◌≡◌, None, List, length}
+use Rattle.std.specs.Prelude.{◌≡◌, None, length}
 use Rattle.dt_record.specs.declared.keys.Key.{Key}
 use Rattle.dt_record.specs.declared.records.Record.{Record}
 use Rattle.dt_record.specs.Actions.{order_floor, last_read}

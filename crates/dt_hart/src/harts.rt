@@ -8,13 +8,12 @@ ghost use Rattle.dt_hart.specs.Built.{is_built};
 ghost use Rattle.dt_hart.specs.OwnWrites.{GoesOn};
 ghost use Rattle.dt_hart.specs.Settings.{Setting, at_first, after};
 ghost use Rattle.dt_hart.specs.Standing.{StandsFor};
-ghost use Rattle.dt_hart.specs.Taking.{WasJudged, is_placed, moment_read};
+ghost use Rattle.dt_hart.specs.Taking.{WasJudged, is_placed};
 
 use crate::accesses::Accesses;
-use crate::reads::ReadFrom;
 use dt_judged::judged_goes_on;
 use dt_local::Local;
-use dt_record::Record;
+use dt_record::{Record, Sources};
 use dt_reference::{actions_go_on, advance, start, state_goes_on};
 use dt_sources::{knowing_goes_on, least_choice_goes_on, notes_are_added};
 use dt_step::Arch;
@@ -122,8 +121,9 @@ impl Hart {
         self.accesses.floor
     }
 
-    /// Takes the hart's next record, which is allowed. A load from RAM comes with where it read.
-    pub fn take(&mut self, event: &Record, read: Option<ReadFrom>) -> Result<(), AllocError>
+    /// Takes the hart's next record, which is allowed. The sources are where the bytes of a load from
+    /// RAM come from; of any other record they do not count.
+    pub fn take(&mut self, event: &Record, sources: Sources) -> Result<(), AllocError>
         requires lawful { IsLawful event.now }
         requires built { IsTrue (is_built event.now) }
         requires its { event.now.hart ≡ self.old.arch.hart }
@@ -131,7 +131,7 @@ impl Hart {
         requires room { self.old.seq < 4194304 }
         requires follows { CanFollow self.old.arch event.now.body }
         requires placed { IsTrue (is_placed (action_of self.old.seq event.now)) }
-        ensures goes_on { OnOk result ((s : Setting) → StandsFor self.old s → GoesOn s event.now → WasJudged s event.now read → StandsFor self.new (after s event.now (moment_read read))) }
+        ensures goes_on { OnOk result ((s : Setting) (moment : ℕ) → StandsFor self.old s → GoesOn s event.now → WasJudged s event.now moment sources → StandsFor self.new (after s event.now moment)) }
         ensures arch { OnOk result (self.new.arch ≡ after_record self.old.arch event.now) }
         ensures number { self.new.arch.hart ≡ self.old.arch.hart }
         ensures counted { OnOk result (self.new.seq ≡ self.old.seq + 1) }
@@ -144,7 +144,7 @@ impl Hart {
         notes_are_added();
         least_choice_goes_on();
         judged_goes_on();
-        self.accesses.take(self.seq, event, read)?;
+        self.accesses.take(self.seq, event, sources)?;
         advance(&mut self.arch, event);
         self.seq += 1;
         self.stamp = event.stamp;

@@ -8,11 +8,11 @@ mod built;
 mod harts;
 mod laws;
 mod notes;
-mod reads;
+mod places;
 #[cfg(test)]
 mod tests;
 
-pub use built::{is_built, is_placed};
+pub use built::is_built;
 pub use harts::Hart;
 pub use laws::known_at_next;
-pub use reads::ReadFrom;
+pub use places::is_placed;

@@ -2,5 +2,4 @@ mod FoundValues
 mod LastVisible
 mod Lines
 mod NewerWrites
-mod Notes
 mod OneAnswer

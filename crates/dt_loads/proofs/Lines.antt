@@ -1,11 +1,9 @@
-use Rattle.std.proofs.Common.{ℕ, ◌≡◌, ◌+◌, ◌-◌, ◌%◌, ◌==◌, ◌<◌, ◌≤◌, ◌⊎◌, true, false, IsTrue, subst, inl, inr, arith}
+use Rattle.std.proofs.Common.{ℕ, ◌≡◌, ◌+◌, ◌%◌, ◌==◌, ◌<◌, ◌≤◌, IsTrue, subst, inl, inr, arith}
 use Rattle.std.proofs.lemmas.Bool.{and_parts}
 use Rattle.std.proofs.lemmas.Bool.Decides.{nat_tests}
 use Rattle.dt_alu.specs.Extend.{IsAccessWidth}
 use Rattle.dt_record.specs.declared.accesses.LoadAsk.{LoadAsk}
 use Rattle.dt_record.specs.Lawful.{is_in_ram}
-use Rattle.dt_record.specs.LoadSources.{is_within}
-use Rattle.dt_record.specs.Memory.{line_of}
 use Rattle.dt_stores.specs.Places.{is_store_width}
 use Rattle.dt_sources.specs.Finding.{is_load_place}
 
@@ -60,21 +58,3 @@ lies_in_line ask place =
       from = within.0;
       end = ends_in_ram ask.addr ask.width wide aligned within.1;
     }
-
--- a byte of the load
-pub within_parts : (addr width byte : ℕ) → is_within addr width byte ≡ true → (addr ≤ byte) × (byte < addr + width)
-within_parts addr width byte is = grind (arith, nat_tests)
-
-pub is_within-outside : (addr width byte : ℕ) → is_within addr width byte ≡ false → (byte < addr) ⊎ (addr + width ≤ byte)
-is_within-outside addr width byte is = grind (arith, nat_tests)
-
--- its place in the line
-pub place_in_line : (addr width byte : ℕ) → addr % 64 + width ≤ 64 → addr ≤ byte → byte < addr + width → byte % 64 ≡ addr % 64 + (byte - addr)
-place_in_line addr width byte inside from below = omega arith
-
-pub same_line : (addr width byte : ℕ) → addr % 64 + width ≤ 64 → addr ≤ byte → byte < addr + width → line_of addr ≡ line_of byte
-same_line addr width byte inside from below = omega arith
-
-pub outside_in_line : (addr width byte : ℕ) → line_of addr ≡ line_of byte → (byte < addr) ⊎ (addr + width ≤ byte) → (byte % 64 < addr % 64) ⊎ (addr % 64 + width ≤ byte % 64)
-outside_in_line addr width byte same (inl below) = inl (omega arith)
-outside_in_line addr width byte same (inr above) = inr (omega arith)

@@ -1,4 +1,3 @@
 pub mod Checks
 pub mod Newer
-pub mod Noting
 pub mod Reading

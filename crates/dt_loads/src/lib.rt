@@ -1,11 +1,10 @@
 //! What loads may give: a value from a device, the order of a load from RAM among its hart's fences
-//! and stores, the sources of its bytes, and what its hart then knows. The definitions that the
-//! contracts cite stand in `specs/` here and in the crates below.
+//! and stores, and the sources of its bytes. The definitions that the contracts cite stand in `specs/`
+//! here and in the crates below.
 #![tactic(auto)]
 
 mod checks;
 mod laws;
-mod noting;
 mod reading;
 #[cfg(test)]
 mod tests;
@@ -14,5 +13,4 @@ pub use checks::{device_value, order};
 pub use dt_record::{LoadAsk, Sources};
 pub use dt_rules::Misfit;
 pub use laws::loads_have_one_answer;
-pub use noting::{read_keys, read_mask};
 pub use reading::{Passed, load_ask, ram_load};

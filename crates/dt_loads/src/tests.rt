@@ -3,7 +3,7 @@ ghost use Rattle.dt_sources.specs.Finding.{is_load_place};
 
 use crate::{
     LoadAsk, Misfit, Passed, Sources, device_value, load_ask, loads_have_one_answer, order,
-    ram_load, read_keys, read_mask,
+    ram_load,
 };
 use dt_local::Local;
 use dt_record::{Image, Key, Origin, Write};
@@ -103,13 +103,8 @@ fn a_noted_load_is_known(rt: HostRuntime) -> Result<(), Fail> {
     let stores = Stores::new(rt.alloc());
     let mut local = Local::new(rt.alloc());
     let sources = everywhere(Origin::Write(key(10, 0, 5)));
-    let first = double(key(10, 1, 3), 10, 7);
-    let mask = read_mask(first, sources);
-    assert_eq!(rt; mask, 0xff);
-    local.reserve(LINE, mask)?;
-    local.note(LINE, mask, &read_keys(first, sources));
-    assert_eq!(rt; local.newest(LINE + 7), Some(key(10, 0, 5)));
-    assert_eq!(rt; local.newest(LINE + 8), None);
+    local.reserve(LINE, 0xff)?;
+    local.note(LINE, 0xff, &[key(10, 0, 5); 64]);
     let known = Passed {
         letters: NO_LETTERS,
         sources,
@@ -159,7 +154,6 @@ fn a_word_is_forwarded_into_a_double(rt: HostRuntime) -> Result<(), Fail> {
         ram_load(&moments, &stores, &local, ask, true, value),
         Ok(passed)
     );
-    assert_eq!(rt; read_mask(ask, sources), 0);
     let ask = double(key(4, 0, 3), 4, 0);
     assert_eq!(rt;
         ram_load(&moments, &stores, &local, ask, true, 0),

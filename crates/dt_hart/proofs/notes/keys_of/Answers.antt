@@ -1,4 +1,4 @@
-use Rattle.std.proofs.Common.{ap, sym, ◌∙◌, List, arith}
+use Rattle.std.proofs.Common.{ap, ◌∙◌, List, arith}
 use Rattle.std.proofs.lemmas.List.{length-set, take_all}
 use Rattle.dt_record.specs.declared.origins.Origin.{Origin}
 use Rattle.dt_hart.specs.Following.{read_key}

@@ -8,7 +8,7 @@ use Rattle.dt_hart.proofs.SameHart.{hart_stays}
 use Rattle.dt_hart.proofs.harts.Hart.take.Goals as goal
 
 pub returns-clause-goes_on : goal.returns-clause-goes_on
-returns-clause-goes_on c = λ s stands g known.
+returns-clause-goes_on c = λ s moment stands g known.
     let laws : Laws = record {
       state = c.state_goes_on.ensures;
       actions = c.actions_go_on.ensures;
@@ -17,9 +17,9 @@ returns-clause-goes_on c = λ s stands g known.
       least = c.least_choice_goes_on.ensures;
       judging = c.judged_goes_on.ensures;
     } in
-    goes_on laws c.self.inside.arch c.advance.new.a c.self.inside.seq c.self.inside.stamp c.self.inside.accesses c.take.new.self c.args.event.now c.args.read c.requires.built
+    goes_on laws c.self.inside.arch c.advance.new.a c.self.inside.seq c.self.inside.stamp c.self.inside.accesses c.take.new.self c.args.event.now c.args.sources c.requires.built
     (subst (λ (v : HartView). IsTrue (is_placed (action_of v.seq c.args.event.now))) (sym c.self.view_is) c.requires.placed)
-    c.advance.ensures.state c.in_ok-take.ensures.follows s
+    c.advance.ensures.state c.in_ok-take.ensures.follows s moment
     (subst (λ (v : HartView). StandsFor v s) (sym c.self.view_is) stands) g known
 
 pub returns-clause-number : goal.returns-clause-number
