@@ -2,6 +2,7 @@ use Rattle.std.specs.Prelude.{ℕ, ◌≡◌, ◌||◌, ◌==◌, Bool, true, fa
 use Rattle.std.specs.List.{range_with_len}
 use Rattle.std.specs.Option.{option_map_or, unwrap_or}
 use Rattle.std.specs.Str.{bytes_eq}
+use Rattle.dt_record.specs.declared.accesses.LoadAsk.{LoadAsk}
 use Rattle.dt_record.specs.declared.keys.Key.{Key}
 use Rattle.dt_record.specs.declared.origins.Letters.{Letters}
 use Rattle.dt_record.specs.declared.reasons.Reason.TheVariants.{Refill as NotRefilled}
@@ -110,24 +111,30 @@ with_p p (Ok x) = Ok (record x { letters = record x.letters { p = p } })
 with_p p (Err refused) = Err refused
 
 -- a load from RAM, where its order allows it
-abbrev pub ReadsRam : Grounds → Key → (p : Bool) → (width : ℕ) → (signed : Bool) → (value at paddr : ℕ) → Result Passed Misfit → Type 0
-ReadsRam g key p width signed value at paddr f =
+abbrev pub ReadsRam : Grounds → (p : Bool) → LoadAsk → (signed : Bool) → (value : ℕ) → Result Passed Misfit → Type 0
+ReadsRam g p ask signed value f =
     (answer : Result Passed Misfit) × HasEightPlaces answer
-    × IsLoadAnswer g.image g.writes g.actions g.moments (ask_of key at paddr width value) signed value answer
+    × IsLoadAnswer g.image g.writes g.actions g.moments ask signed value answer
     × (f ≡ with_p p answer)
 
--- a load from RAM, or from a device
-abbrev pub Loaded : (in_ram : Bool) → Grounds → Key → (p : Bool) → (width : ℕ) → (signed : Bool) → (value at paddr : ℕ) → Result Passed Misfit → Type 0
-Loaded true g key p width signed value at paddr f =
-    Leads (order_check g.actions at) (λ _ found. ReadsRam g key p width signed value at paddr found) f
-Loaded false g key p width signed value at paddr f =
-    f ≡ and_then (device_check width signed value) (λ _. passed (record NO_LETTERS { p = p; d = true }))
+abbrev pub LoadsRam : Grounds → (p : Bool) → LoadAsk → (signed : Bool) → (value : ℕ) → Result Passed Misfit → Type 0
+LoadsRam g p ask signed value f = Leads (order_check g.actions ask.at) (λ _ found. ReadsRam g p ask signed value found) f
+
+-- a load from a device
+abbrev pub device_finding : (p : Bool) → (width : ℕ) → (signed : Bool) → (value : ℕ) → Result Passed Misfit
+device_finding p width signed value =
+    and_then (device_check width signed value) (λ _. passed (record NO_LETTERS { p = p; d = true }))
+
+-- a load where its address is allowed
+abbrev pub Loads : (in_ram : Bool) → Grounds → (p : Bool) → LoadAsk → (signed : Bool) → (value : ℕ) → Result Passed Misfit → Type 0
+Loads true g p ask signed value f = LoadsRam g p ask signed value f
+Loads false g p ask signed value f = f ≡ device_finding p ask.width signed value
 
 -- a load after its common start; no other plan starts in a Load record
 abbrev pub LoadsBy : Grounds → Key → (stale : Bool) → Planned → (value at paddr : ℕ) → Result Passed Misfit → Type 0
 LoadsBy g key stale (NeedsLoad va width signed rd) value at paddr f =
     Leads (accessed g access.Load false va paddr)
-    (λ older found. Loaded (is_in_ram paddr) g key (stale || older) width signed value at paddr found) f
+    (λ older found. Loads (is_in_ram paddr) g (stale || older) (ask_of key at paddr width value) signed value found) f
 LoadsBy g key stale plan value at paddr f = f ≡ passed NO_LETTERS
 
 abbrev pub IsLoadFinding : Grounds → Key → Retire → (at paddr : ℕ) → Result Passed Misfit → Type 0

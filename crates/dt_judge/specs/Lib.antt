@@ -1,7 +1,10 @@
 pub mod Atomics
 pub mod Grounds
 pub mod Judgement
+pub mod Judging
 pub mod Kinds
 pub mod Reserving
+pub mod Laws
 pub mod Runs
+pub mod Unfenced
 pub mod Windows

@@ -1,4 +1,16 @@
-//! The judge: whether each record of a hart is allowed, by the reference and by named rules.
+//! The judge: whether each record of a hart is allowed, by the reference and by named rules. The
+//! definitions that the contracts cite stand in `specs/` here and in the crates below.
 #![tactic(auto)]
 
-pub use dt_hart::Hart;
+mod findings;
+mod judging;
+mod kinds;
+mod laws;
+mod loads;
+mod spans;
+#[cfg(test)]
+mod tests;
+
+pub use dt_hart::{Hart, is_built};
+pub use judging::{Judged, judge};
+pub use laws::{earlier_moments_decide, records_have_one_finding};

@@ -1,0 +1,51 @@
+use Rattle.std.proofs.Common.{ℕ, ◌≡◌, ◌==◌, Bool, false, IsTrue, refl, arith}
+use Rattle.std.proofs.lemmas.Bool.Decides.{nat_tests}
+use Rattle.dt_checks.specs.Retiring.{IsRetired, due_tag}
+use Rattle.dt_hart.specs.Taking.{is_placed_at}
+use Rattle.dt_step.specs.declared.plans.Planned.{Planned}
+use Rattle.dt_step.specs.declared.plans.Planned.TheVariants.{Done, NeedsLoad, NeedsStore, NeedsAtomic, Csr, Returns, Fences, FenceI, FencesPages, Raises}
+use Rattle.dt_step.specs.declared.state.Arch.{Arch}
+use Rattle.dt_judge.specs.Unfenced.{IsPlacedBy}
+use Rattle.dt_judge.proofs.Widths.{retired_width, aligned_is_placed}
+
+-- Which plans records of loads and stores have, and where these access memory.
+
+pub differs : (a b : ℕ) → (a == b) ≡ false → a ≡ b → ⊥
+differs a b test same = grind (arith, nat_tests)
+
+-- a record of a store has the plan of one
+pub only_store : (plan : Planned) → due_tag plan ≡ 6 → ((va width value : ℕ) → plan ≡ NeedsStore va width value → ⊥) → ⊥
+only_store (Done rd value next) due unlike = differs 1 6 refl due
+only_store (NeedsLoad va width signed rd) due unlike = differs 5 6 refl due
+only_store (NeedsStore va width value) due unlike = unlike va width value refl
+only_store (NeedsAtomic va width op aq rl rd operand) due unlike = differs 7 6 refl due
+only_store (Csr number op operand reads writes rd) due unlike = differs 1 6 refl due
+only_store (Returns from_m) due unlike = differs 1 6 refl due
+only_store (Fences ww wr rr) due unlike = differs 1 6 refl due
+only_store FenceI due unlike = differs 1 6 refl due
+only_store (FencesPages va all) due unlike = differs 1 6 refl due
+only_store (Raises cause tval) due unlike = differs 1 6 refl due
+
+-- a record of a load has the plan of one
+pub only_load : (plan : Planned) → due_tag plan ≡ 5 → ((va width : ℕ) (signed : Bool) (rd : ℕ) → plan ≡ NeedsLoad va width signed rd → ⊥) → ⊥
+only_load (Done rd value next) due unlike = differs 1 5 refl due
+only_load (NeedsLoad va width signed rd) due unlike = unlike va width signed rd refl
+only_load (NeedsStore va width value) due unlike = differs 6 5 refl due
+only_load (NeedsAtomic va width op aq rl rd operand) due unlike = differs 7 5 refl due
+only_load (Csr number op operand reads writes rd) due unlike = differs 1 5 refl due
+only_load (Returns from_m) due unlike = differs 1 5 refl due
+only_load (Fences ww wr rr) due unlike = differs 1 5 refl due
+only_load FenceI due unlike = differs 1 5 refl due
+only_load (FencesPages va all) due unlike = differs 1 5 refl due
+only_load (Raises cause tval) due unlike = differs 1 5 refl due
+
+-- an access that is placed by its plan is placed by its bits
+pub store_is_placed : (a : Arch) (bits paddr : ℕ) (plan : Planned) → IsRetired a bits 6 plan → IsPlacedBy plan paddr → IsTrue (is_placed_at bits paddr)
+store_is_placed a bits paddr (NeedsStore va width value) retired aligned =
+    aligned_is_placed bits paddr width (retired_width a bits 6 (NeedsStore va width value) retired (differs 6 1 refl)) aligned
+store_is_placed a bits paddr plan retired aligned = absurd (only_store plan retired.is_due (λ va width value is. cc))
+
+pub load_is_placed : (a : Arch) (bits paddr : ℕ) (plan : Planned) → IsRetired a bits 5 plan → IsPlacedBy plan paddr → IsTrue (is_placed_at bits paddr)
+load_is_placed a bits paddr (NeedsLoad va width signed rd) retired aligned =
+    aligned_is_placed bits paddr width (retired_width a bits 5 (NeedsLoad va width signed rd) retired (differs 5 1 refl)) aligned
+load_is_placed a bits paddr plan retired aligned = absurd (only_load plan retired.is_due (λ va width signed rd is. cc))

@@ -1,0 +1,58 @@
+use Rattle.std.specs.Prelude.{ℕ, ◌≡◌, Bool, List, Ok, Err, IsTrue, nat_lt}
+use Rattle.std.specs.List.{list_all}
+use Rattle.dt_record.specs.declared.origins.Letters.{Letters}
+use Rattle.dt_record.specs.declared.origins.Sources.{Sources}
+use Rattle.dt_record.specs.declared.records.Record.{Record}
+use Rattle.dt_record.specs.declared.writes.Write.{Write}
+use Rattle.dt_hart.specs.Built.{is_built}
+use Rattle.dt_hart.specs.HartView.{HartView}
+use Rattle.dt_hart.specs.OwnWrites.{GoesOn}
+use Rattle.dt_hart.specs.Settings.{Setting, after, does}
+use Rattle.dt_hart.specs.Standing.{StandsFor}
+use Rattle.dt_hart.specs.Taking.{IsRead}
+use Rattle.dt_rules.specs.Checks.{misfit}
+use Rattle.dt_versions.specs.History.{History}
+use Rattle.dt_judge.specs.declared.judging.Judged.{Judged}
+use Rattle.dt_judge.specs.declared.judging.Judged.TheVariants.{Fine, Fail, OutOfMemory}
+use Rattle.dt_judge.specs.Judgement.{Finds}
+
+-- What `judge` answers (this project's own).
+
+abbrev pub are_built : List Record → Bool
+are_built records = list_all is_built records
+
+-- writes of later cycles than this one
+abbrev pub are_later : ℕ → List Write → Bool
+are_later stamp writes = list_all (λ w. nat_lt stamp w.key.stamp) writes
+
+-- A hart and the memory that it is judged over are those of a setting, with which this record goes on. Only records that
+-- are built were judged before.
+pub record Meets (h : HartView) (m : History) (s : Setting) (r : Record) : Type 0 where
+  pub stands : StandsFor h s
+  pub goes_on : GoesOn s r
+  pub image : s.image ≡ m.image
+  pub writes : s.writes ≡ m.writes
+  pub built : IsTrue (are_built s.before)
+
+-- the answer is what the judgement finds
+abbrev pub IsJudged : Setting → Record → Judged → Type 0
+IsJudged s r (Fine letters sources) = Finds s r (Ok (record { letters = letters; sources = sources }))
+IsJudged s r (Fail reason expected found) = Finds s r (Err (misfit reason expected found))
+IsJudged s r OutOfMemory = Unit {0}
+
+-- The hart stands for its records with one more. Where that is a load from RAM, it read at the least moment that fits, and
+-- its bytes come from these sources.
+pub record GoesOnBy (h : HartView) (s : Setting) (r : Record) (sources : Sources) : Type 0 where
+  pub moment : ℕ
+  pub is_read : IsRead s (does s r) moment sources
+  pub stands : StandsFor h (after s r moment)
+
+abbrev pub OnFine : Judged → (Letters → Sources → Type 0) → Type 0
+OnFine (Fine letters sources) P = P letters sources
+OnFine (Fail reason expected found) P = Unit {0}
+OnFine OutOfMemory P = Unit {0}
+
+abbrev pub UnlessFine : Judged → Type 0 → Type 0
+UnlessFine (Fine letters sources) p = Unit {0}
+UnlessFine (Fail reason expected found) p = p
+UnlessFine OutOfMemory p = p

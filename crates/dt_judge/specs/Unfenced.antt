@@ -1,0 +1,80 @@
+use Rattle.std.specs.Prelude.{ℕ, ◌≡◌, None, Some, Option, List, IsTrue}
+use Rattle.dt_record.specs.declared.accesses.LoadAsk.{LoadAsk}
+use Rattle.dt_record.specs.declared.keys.Key.{Key}
+use Rattle.dt_record.specs.declared.origins.Letters.{Letters}
+use Rattle.dt_record.specs.declared.origins.Sources.{Sources}
+use Rattle.dt_record.specs.declared.records.Body.{Body}
+use Rattle.dt_record.specs.declared.writes.Write.{Write}
+use Rattle.dt_record.specs.Actions.{Action, Loaded, order_floor}
+use Rattle.dt_record.specs.Lawful.{is_in_ram}
+use Rattle.dt_checks.specs.declared.fetching.FetchSpans.{FetchSpans}
+use Rattle.dt_checks.specs.Retiring.{IsAligned}
+use Rattle.dt_hart.specs.HartView.{HartView}
+use Rattle.dt_hart.specs.Taking.{IsDrained}
+use Rattle.dt_loads.specs.Reading.{IsReading, ask_of}
+use Rattle.dt_local.specs.LocalMemory.{local_memory}
+use Rattle.dt_reference.specs.HartActions.{body_action}
+use Rattle.dt_sources.specs.Knowing.{AreJudged, Knows}
+use Rattle.dt_step.specs.declared.plans.Planned.{Planned}
+use Rattle.dt_step.specs.declared.plans.Planned.TheVariants.{NeedsLoad, NeedsStore}
+use Rattle.dt_stores.specs.Standing.{StandsFor as Keeps}
+use Rattle.dt_versions.specs.declared.moments.Span.{Span}
+use Rattle.dt_versions.specs.History.{History}
+use Rattle.dt_versions.specs.Spans.{last_visible}
+use Rattle.dt_judge.specs.Grounds.{Grounds}
+
+-- How the grounds of a record are seen from what is kept of its hart, as long as no fence is judged (this project's own).
+
+-- all moments up to the greatest that a record with this key may see
+abbrev pub seen_until : List Write → Key → Span
+seen_until writes key = record { first = 0; last = last_visible writes key key.stamp }
+
+abbrev pub fetch_from : Span → FetchSpans
+fetch_from seen = record { first = seen; second = seen; since = seen }
+
+-- the grounds where fetches and translations may come from these moments, and the hart did these actions
+abbrev pub unfenced : HartView → History → (seen : Span) → List Action → (ℕ → ℕ) → Option (ℕ × Key) → Grounds
+unfenced h m seen actions moments reserved = record {
+  image = m.image;
+  writes = m.writes;
+  arch = h.arch;
+  actions = actions;
+  moments = moments;
+  reserved = reserved;
+  fetch = fetch_from seen;
+  window = λ va. seen;
+}
+
+-- what is kept of a hart is what these actions left, of which the loads read at these moments, before a record with this key
+pub record Remembers (h : HartView) (writes : List Write) (key : Key) (actions : List Action) (moments : ℕ → ℕ) : Type 0 where
+  pub stores : Keeps h.stores actions
+  pub floor : h.floor ≡ order_floor actions
+  pub knows : Knows (local_memory h.keys None) writes actions moments key
+  pub judged : AreJudged writes actions key
+
+-- the physical address of a load or a store is aligned to its width
+abbrev pub IsPlacedBy : Planned → (paddr : ℕ) → Type 0
+IsPlacedBy (NeedsLoad va width signed rd) paddr = IsAligned paddr width
+IsPlacedBy (NeedsStore va width value) paddr = IsAligned paddr width
+IsPlacedBy plan paddr = Unit {0}
+
+-- a load read at the least moment that fits, and its bytes come from these sources
+abbrev pub HasReading : List ℕ → List Write → List Action → (ℕ → ℕ) → LoadAsk → Sources → Type 0
+HasReading image writes actions moments ask sources =
+    (letters : Letters) × IsReading image writes actions moments ask (record { letters = letters; sources = sources })
+
+-- a load with this plan did, where its address is one of RAM
+abbrev pub IsReadBy : List ℕ → List Write → List Action → (ℕ → ℕ) → Planned → Key → (value at paddr : ℕ) → Sources → Type 0
+IsReadBy image writes actions moments (NeedsLoad va width signed rd) key value at paddr sources =
+    IsTrue (is_in_ram paddr) → HasReading image writes actions moments (ask_of key at paddr width value) sources
+IsReadBy image writes actions moments plan key value at paddr sources = Unit {0}
+
+-- an action that is a load from RAM did
+abbrev pub IsReadIn : List ℕ → List Write → List Action → (ℕ → ℕ) → Option Action → Sources → Type 0
+IsReadIn image writes actions moments (Some (Loaded ask)) sources = HasReading image writes actions moments ask sources
+IsReadIn image writes actions moments action sources = Unit {0}
+
+-- what was found of the body of an allowed record: where a load read, and which stores a drain took
+pub record WasFound (image : List ℕ) (writes : List Write) (actions : List Action) (moments : ℕ → ℕ) (key : Key) (body : Body) (sources : Sources) : Type 0 where
+  pub is_read : IsReadIn image writes actions moments (body_action key body) sources
+  pub is_drained : IsDrained actions body

@@ -1,0 +1,66 @@
+ghost use Rattle.std.specs.Prelude.{◌≡◌, ◌+◌, ◌<◌, ◌≤◌, IsTrue};
+ghost use Rattle.dt_record.specs.Lawful.{IsLawful};
+ghost use Rattle.dt_hart.specs.Built.{is_built};
+ghost use Rattle.dt_hart.specs.Settings.{Setting};
+ghost use Rattle.dt_judge.specs.Judging.{GoesOnBy, IsJudged, Meets, OnFine, UnlessFine};
+
+use crate::findings::finding;
+use dt_hart::{Hart, known_at_next};
+use dt_record::{Key, Record};
+use dt_rules::{Letters, Reason};
+use dt_sources::Sources;
+use dt_versions::Moments;
+
+/// What the judge says of a record.
+#[derive(Clone, Copy, Debug, PartialEq, Eq)]
+pub enum Judged {
+    /// The record is allowed. The sources have the count 0 where nothing was read from RAM.
+    Fine {
+        letters: Letters,
+        sources: Sources,
+    },
+    /// The first check that the record fails.
+    Fail {
+        reason: Reason,
+        expected: u64,
+        found: u64,
+    },
+    OutOfMemory,
+}
+
+/// Judges the hart's next record over the writes that the moments hold, and takes it where it is
+/// allowed.
+pub fn judge(h: &mut Hart, m: &Moments, event: &Record) -> Judged
+    requires lawful { IsLawful event.now }
+    requires built { IsTrue (is_built event.now) }
+    requires its { event.now.hart ≡ h.old.arch.hart }
+    requires in_time { h.old.stamp ≤ event.now.stamp }
+    requires room { h.old.seq < 4194304 }
+    ensures judged { (s : Setting) → Meets h.old m.now s event.now → IsJudged s event.now result }
+    ensures goes_on { OnFine result (λ letters sources. (s : Setting) → Meets h.old m.now s event.now → GoesOnBy h.new s event.now sources) }
+    ensures counted { OnFine result (λ letters sources. h.new.seq ≡ h.old.seq + 1) }
+    ensures stamp { OnFine result (λ letters sources. h.new.stamp ≡ event.now.stamp) }
+    ensures number { h.new.arch.hart ≡ h.old.arch.hart }
+    ensures unchanged { UnlessFine result (h.new ≡ h.old) }
+{
+    known_at_next();
+    let key = Key {
+        stamp: event.stamp,
+        hart: event.hart,
+        seq: h.seq(),
+    };
+    match finding(h, m, key, event) {
+        Ok(passed) => match h.take(event, passed.sources) {
+            Ok(()) => Judged::Fine {
+                letters: passed.letters,
+                sources: passed.sources,
+            },
+            Err(_) => Judged::OutOfMemory,
+        },
+        Err(refused) => Judged::Fail {
+            reason: refused.reason,
+            expected: refused.expected,
+            found: refused.found,
+        },
+    }
+}

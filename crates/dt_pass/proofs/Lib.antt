@@ -1,0 +1,6 @@
+mod AllHarts
+mod Failing
+mod HartRuns
+mod LoadMoments
+mod OwnRecords
+mod Underway

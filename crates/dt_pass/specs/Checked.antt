@@ -1,0 +1,90 @@
+use Rattle.std.specs.Prelude.{ℕ, ◌≡◌, ◌+◌, Bool, if◌then◌else◌, Option, None, Some, option_map, option_and_then, List, [], ◌∷◌, ◌++◌, length, map, slice_get, All}
+use Rattle.std.specs.List.{flat_map, range_with_len}
+use Rattle.dt_record.specs.declared.keys.Key.{Key}
+use Rattle.dt_record.specs.declared.records.Record.{Record}
+use Rattle.dt_record.specs.declared.streams.Next.{Next}
+use Rattle.dt_record.specs.Keys.{key_of, records_of}
+use Rattle.dt_record.specs.Streams.{Progress}
+use Rattle.dt_record.specs.Writes.{writes_of}
+use Rattle.dt_rules.specs.declared.misfits.Misfit.{Misfit}
+use Rattle.dt_loads.specs.declared.reading.Passed.{Passed}
+use Rattle.dt_judge.specs.Runs.{RunsTo}
+use Rattle.dt_verdict.specs.declared.answers.Checked.{Checked}
+use Rattle.dt_verdict.specs.declared.tallies.Noted.{Noted}
+use Rattle.dt_verdict.specs.declared.verdicts.Failure.{Failure}
+use Rattle.dt_verdict.specs.declared.verdicts.Outcome.{Outcome}
+use Rattle.dt_verdict.specs.declared.verdicts.Verdict.{Verdict}
+use Rattle.dt_verdict.specs.declared.verdicts.Verdict.TheVariants.{Pass, Fail}
+use Rattle.dt_verdict.specs.Verdict.{verdict_of, IsVerdict}
+use Rattle.dt_tallies.specs.Counting.{counts_of}
+use Rattle.dt_tallies.specs.Naming.{is_named, named_notes}
+use Rattle.dt_pass.specs.Reading.{HasCome}
+
+-- What checking the records of a probe file comes to (this project's own).
+
+-- How far the records of one hart are allowed: those that are, each with its letters and sources, and why the next one,
+-- if there is one, is not.
+pub record HartRun : Type 0 where
+  pub hart : ℕ
+  pub allowed : List Passed
+  pub refused : Option Misfit
+
+-- the failure of a record with this key
+abbrev pub failure_at : Key → Misfit → Failure
+failure_at key m = record { key = key; reason = m.reason; expected = m.expected; found = m.found }
+
+-- the failure of a hart with these records: its first record that is not allowed, where there is one
+abbrev pub failure_of : List Record → HartRun → Option Failure
+failure_of own run =
+    option_and_then (λ m. option_map (λ r. failure_at (key_of (length run.allowed) r) m) (slice_get own (length run.allowed))) run.refused
+
+-- the outcome of a hart of a file with these records
+abbrev pub outcome_of : List Record → HartRun → Outcome
+outcome_of records run = record { hart = run.hart; failure = failure_of (records_of run.hart records) run }
+
+-- what a report says of an allowed record, where it names it
+abbrev pub note_of : Key → Passed → List Noted
+note_of key p = if is_named p.letters p.sources then record { key = key; letters = p.letters; sources = p.sources } ∷ [] else []
+
+-- what it says of the allowed ones among a hart's records, after so many of them
+abbrev pub notes_from : ℕ → List Record → List Passed → List Noted
+notes_from seq [] allowed = []
+notes_from seq (r ∷ rs) [] = []
+notes_from seq (r ∷ rs) (p ∷ ps) = note_of (key_of seq r) p ++ notes_from (seq + 1) rs ps
+
+-- the notes of a hart of a file with these records
+abbrev pub notes_of : List Record → HartRun → List Noted
+notes_of records run = notes_from 0 (records_of run.hart records) run.allowed
+
+-- the key below which records are counted and named, where there is one
+abbrev pub limit_of : Verdict → Option Key
+limit_of Pass = None
+limit_of (Fail f) = Some f.key
+
+-- a hart's records among these are allowed as far as the run says
+abbrev pub IsRun : (image : List ℕ) (wide : Bool) → List Record → HartRun → Type 0
+IsRun image wide records run = RunsTo image (writes_of records) wide run.hart (records_of run.hart records) run.allowed run.refused
+
+-- one run for each hart of a file with so many harts and these records, hart 0 first, over the image and all writes of the file
+pub record AreRuns (image : List ℕ) (wide : Bool) (harts : ℕ) (records : List Record) (runs : List HartRun) : Type 0 where
+  pub harts_are : map (λ (run : HartRun). run.hart) runs ≡ range_with_len 0 harts
+  pub each : All (IsRun image wide records) runs
+
+-- What checking comes to: the verdict over all harts; and of the records below the failing one, or of all, the counts of
+-- each hart, and what a report names.
+pub record IsChecked (image : List ℕ) (wide : Bool) (harts : ℕ) (records : List Record) (checked : Checked) : Type 0 where
+  pub runs : List HartRun
+  pub are_runs : AreRuns image wide harts records runs
+  pub harts_are : checked.harts ≡ harts
+  pub verdict : checked.verdict ≡ verdict_of (map (outcome_of records) runs)
+  pub least : IsVerdict (map (outcome_of records) runs) checked.verdict
+  pub counts : checked.tallies.harts ≡ map (λ hart. counts_of (limit_of checked.verdict) (records_of hart records)) (range_with_len 0 harts)
+  pub notes : checked.tallies.notes ≡ named_notes (limit_of checked.verdict) (flat_map (notes_of records) runs)
+
+-- the check of the records that a stream answered, from no answer to its end
+pub record IsCheckOf (image : List ℕ) (told : Option (List Next)) (p : Progress) (checked : Checked) : Type 0 where
+  pub harts : ℕ
+  pub wide : Bool
+  pub records : List Record
+  pub came : HasCome told p harts wide records
+  pub is_checked : IsChecked image wide harts records checked

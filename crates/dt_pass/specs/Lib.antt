@@ -1,0 +1,5 @@
+pub mod Checked
+pub mod Laws
+pub mod Reading
+pub mod Running
+pub mod Underway

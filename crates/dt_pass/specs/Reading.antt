@@ -1,0 +1,60 @@
+use Rattle.std.specs.Prelude.{ℕ, ◌≡◌, ◌≤◌, ◌+◌, Bool, if◌then◌else◌, Option, None, Some, IfSome, List, [], ◌∷◌, ◌++◌, length, map, filter, IsTrue}
+use Rattle.std.specs.List.{list_all}
+use Rattle.dt_record.specs.declared.records.Record.{Record}
+use Rattle.dt_record.specs.declared.streams.Next.{Next}
+use Rattle.dt_record.specs.declared.streams.Next.TheVariants as next
+use Rattle.dt_record.specs.declared.streams.Next.TheVariants.{Header, Event, End}
+use Rattle.dt_record.specs.ProbeFile.{AreRecords, no_stamps}
+use Rattle.dt_record.specs.Streams.{Progress}
+use Rattle.dt_record.specs.Writes.{writes_memory}
+use Rattle.dt_hart.specs.Built.{is_built}
+use Rattle.dt_verdict.specs.declared.answers.Refusal.{Refusal}
+use Rattle.dt_verdict.specs.declared.answers.Refusal.TheVariants.{Malformed, Limit, ReadFault, Unbuilt, OutOfMemory}
+
+-- Which records a stream of probe records gives to be judged, or why it gives none (this project's own).
+
+-- records that may stand in a probe file with so many harts
+pub record AreStreamed (harts : ℕ) (records : List Record) : Type 0 where
+  pub some_hart : 1 ≤ harts
+  pub few_harts : harts ≤ 8
+  pub each : AreRecords harts no_stamps records
+  pub few_records : length records ≤ 4_194_304
+  pub few_writes : length (filter writes_memory records) ≤ 1_048_576
+
+-- the answers with which a stream begins: a header, and records
+abbrev pub first_answers : (harts : ℕ) (wide : Bool) → List Record → List Next
+first_answers harts wide records = Header harts wide ∷ map (λ r. Event r) records
+
+-- A stream answered a header, these records and their end, and each of them is of those that are judged so far. Where
+-- the stream tells its answers, they are these.
+pub record HasCome (told : Option (List Next)) (p : Progress) (harts : ℕ) (wide : Bool) (records : List Record) : Type 0 where
+  pub answers : IfSome told (λ answers. (more : List Next) × (answers ≡ first_answers harts wide records ++ End (length records) ∷ more))
+  pub harts_are : p.harts ≡ Some harts
+  pub wide_is : p.wide ≡ wide
+  pub ended : p.ended ≡ Some (End (length records))
+  pub streamed : AreStreamed harts records
+  pub built : IsTrue (list_all is_built records)
+
+-- why the records of these answers are not judged, after so many records: the first answer that is a refusal, or the
+-- first record that is not judged so far
+abbrev pub refusal_from : (number : ℕ) → List Next → Option Refusal
+refusal_from number [] = None
+refusal_from number (Header harts wide ∷ rest) = refusal_from number rest
+refusal_from number (Event r ∷ rest) = if is_built r then refusal_from (number + 1) rest else Some (Unbuilt number)
+refusal_from number (End count ∷ rest) = None
+refusal_from number (next.Malformed offset ∷ rest) = Some (Malformed offset)
+refusal_from number (next.Limit what limit ∷ rest) = Some (Limit what limit)
+refusal_from number (next.ReadFault ∷ rest) = Some ReadFault
+refusal_from number (next.OutOfMemory ∷ rest) = Some OutOfMemory
+
+abbrev pub refusal_in : List Next → Option Refusal
+refusal_in answers = refusal_from 0 answers
+
+-- how far a stream was read where its records are refused: to the answer that ended it, or to the record that is named,
+-- which is the last one that came
+abbrev pub IsRefusedAt : Progress → Refusal → Type 0
+IsRefusedAt p (Malformed offset) = p.ended ≡ Some (next.Malformed offset)
+IsRefusedAt p (Limit what limit) = p.ended ≡ Some (next.Limit what limit)
+IsRefusedAt p ReadFault = p.ended ≡ Some next.ReadFault
+IsRefusedAt p (Unbuilt number) = (p.ended ≡ None) × (p.events ≡ number + 1)
+IsRefusedAt p OutOfMemory = Unit {0}

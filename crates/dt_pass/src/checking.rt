@@ -1,0 +1,109 @@
+ghost use Rattle.std.specs.Prelude.{◌≡◌, ◌≢◌, ◌≤◌, IfOk, IfErr, IfSome, Some, Err, length, map, IsTrue};
+ghost use Rattle.std.specs.List.{list_all, range_with_len};
+ghost use Rattle.dt_record.specs.Keys.{records_of};
+ghost use Rattle.dt_record.specs.Streams.{IsFresh, Rose};
+ghost use Rattle.dt_tallies.specs.Counting.{counts_of};
+ghost use Rattle.dt_verdict.specs.declared.answers.Refusal.TheVariants as refusal;
+ghost use Rattle.dt_hart.specs.Built.{is_built};
+ghost use Rattle.dt_pass.specs.Checked.{IsCheckOf, IsChecked, limit_of};
+ghost use Rattle.dt_pass.specs.Running.{AreJudgeable};
+ghost use Rattle.dt_tallies.specs.Naming.{named_notes};
+ghost use Rattle.dt_pass.specs.Reading.{AreStreamed, IsRefusedAt, refusal_in};
+
+use crate::reading::{Listed, read_all};
+use crate::running::run_all;
+use dt_record::{Image, Key, Probes, Record};
+use dt_tallies::{count, named};
+use dt_verdict::{Checked, HartCounts, Noted, Refusal, Tallies, Verdict, least};
+use dt_versions::Moments;
+use dt_writes::moments_of;
+use std::alloc::{AllocError, Global};
+
+/// Checks the records of a stream that has answered nothing yet against an image. It reads the
+/// stream to its end before it judges, and keeps all records. Where the records are refused, the
+/// stream has been read up to what the refusal names.
+pub fn pass<P: Probes>(alloc: Global, image: &Image, probes: &mut P) -> Result<Checked, Refusal>
+    requires { IsFresh (P.progress probes.old) }
+    ensures checked { IfOk result (λ checked. IsCheckOf image.now (P.left probes.old) (P.progress probes.new) checked) }
+    ensures refused { IfErr result (λ r. r ≢ refusal.ReadFault → r ≢ refusal.OutOfMemory → IfSome (P.left probes.old) (λ answers. refusal_in answers ≡ Some r)) }
+    ensures refused_at { IfErr result (λ r. IsRefusedAt (P.progress probes.new) r) }
+    ensures fault { result ≡ Err refusal.ReadFault → Rose (P.faults probes.old) (P.faults probes.new) }
+    ensures never_falls { P.faults probes.old ≤ P.faults probes.new }
+{
+    let stream = read_all(alloc, probes)?;
+    Ok(check(alloc, image, &stream)?)
+}
+
+/// Checks the records of a stream that came to its end.
+fn check(alloc: Global, image: &Image, stream: &Listed) -> Result<Checked, AllocError>
+    requires streamed { AreStreamed stream.now.harts stream.now.records.items }
+    requires built { IsTrue (list_all is_built stream.now.records.items) }
+    ensures { IfOk result (λ checked. IsChecked image.now stream.now.wide stream.now.harts stream.now.records.items checked) }
+{
+    let m = moments_of(alloc, image.copy()?, &stream.records)?;
+    check_over(alloc, &m, stream)
+}
+
+/// Checks them over the memory of their writes.
+fn check_over(alloc: Global, m: &Moments, stream: &Listed) -> Result<Checked, AllocError>
+    requires streamed { AreStreamed stream.now.harts stream.now.records.items }
+    requires judgeable { AreJudgeable m.now stream.now.records.items }
+    ensures { IfOk result (λ checked. IsChecked m.now.image stream.now.wide stream.now.harts stream.now.records.items checked) }
+{
+    let records = stream.records.as_slice();
+    let mut notes = Vec::new(alloc);
+    let outcomes = run_all(alloc, m, stream.harts, stream.wide, records, &mut notes)?;
+    let verdict = least(&outcomes);
+    let tallies = tallied(alloc, stream.harts, records, limit_of(&verdict), notes)?;
+    Ok(Checked {
+        verdict,
+        harts: stream.harts,
+        tallies,
+    })
+}
+
+/// What a report counts and names, of the records below a limit.
+fn tallied(
+    alloc: Global,
+    harts: u8,
+    records: &[Record],
+    limit: Option<Key>,
+    notes: Vec<Noted>,
+) -> Result<Tallies, AllocError>
+    requires few_harts { harts ≤ 8 }
+    requires few_records { length records.now ≤ 4194304 }
+    ensures counts { IfOk result (λ tallies. tallies.harts ≡ map (λ hart. counts_of limit (records_of hart records.now)) (range_with_len 0 harts)) }
+    ensures notes { IfOk result (λ tallies. tallies.notes ≡ named_notes limit notes.items) }
+{
+    let harts = counted(alloc, harts, records, limit)?;
+    let notes = named(notes, limit)?;
+    Ok(Tallies { harts, notes })
+}
+
+/// The counts of each hart, hart 0 first.
+fn counted(
+    alloc: Global,
+    harts: u8,
+    records: &[Record],
+    limit: Option<Key>,
+) -> Result<HartCounts, AllocError>
+    requires few_harts { harts ≤ 8 }
+    requires few_records { length records.now ≤ 4194304 }
+    ensures { IfOk result (λ counts. counts ≡ map (λ hart. counts_of limit (records_of hart records.now)) (range_with_len 0 harts)) }
+{
+    let mut counts = Vec::new(alloc);
+    for hart in 0..harts {
+        counts.push(count(records, hart, limit))?;
+    }
+    Ok(HartCounts::of(counts))
+}
+
+/// The key of the failing record, where the verdict has one.
+fn limit_of(verdict: &Verdict) -> Option<Key>
+    ensures { result ≡ limit_of verdict.now }
+{
+    match verdict {
+        Verdict::Pass => None,
+        Verdict::Fail(failure) => Some(failure.key),
+    }
+}

@@ -1,0 +1,13 @@
+//! Laws of the definitions, for the crates above. The functions do nothing.
+ghost use Rattle.dt_pass.specs.Laws.{FailIsFirst, PassIsAllAllowed};
+
+/// Where the verdict is Pass, each record of each hart is allowed.
+pub fn pass_is_all_allowed()
+    ensures { PassIsAllAllowed }
+{}
+
+/// Where the verdict is Fail, it names the failure with the least key among the harts' first
+/// records that are not allowed.
+pub fn fail_is_first()
+    ensures { FailIsFirst }
+{}

@@ -1,0 +1,11 @@
+//! The check of a whole stream of probe records on one thread: each hart's records are judged in
+//! their order up to the first that is not allowed, and the least failure is the verdict.
+#![tactic(auto)]
+
+mod checking;
+mod laws;
+mod reading;
+mod running;
+
+pub use checking::pass;
+pub use laws::{fail_is_first, pass_is_all_allowed};

@@ -1,0 +1,71 @@
+ghost use Rattle.std.specs.Prelude.{◌≡◌, ◌≢◌, ◌≤◌, ◌<◌, ◌+◌, ◌++◌, ◌∷◌, [], Some, IfOk, IfErr, IfSome, OnOk, Err, length, MatchResult, false, true};
+ghost use Rattle.dt_record.specs.Lawful.{IsLawful};
+ghost use Rattle.dt_record.specs.Streams.{IsFresh, Rose};
+ghost use Rattle.dt_verdict.specs.declared.answers.Refusal.TheVariants as refusal;
+ghost use Rattle.dt_hart.specs.Built.{is_built};
+ghost use Rattle.dt_pass.specs.Reading.{HasCome, IsRefusedAt, refusal_in};
+ghost use Rattle.dt_pass.specs.Underway.{IsUnbuiltAt};
+
+use dt_hart::is_built;
+use dt_record::{Next, Probes, Record};
+use dt_verdict::Refusal;
+use std::alloc::Global;
+
+/// The records of a stream that came to its end.
+#[derive(Debug, Drop)]
+pub(crate) struct Listed {
+    pub harts: u8,
+    pub wide: bool,
+    pub records: Vec<Record>,
+}
+
+/// Reads a stream to its end, or to the first record that is not judged yet.
+pub(crate) fn read_all<P: Probes>(alloc: Global, probes: &mut P) -> Result<Listed, Refusal>
+    requires { IsFresh (P.progress probes.old) }
+    ensures came { IfOk result (λ l. HasCome (P.left probes.old) (P.progress probes.new) l.harts l.wide l.records.items) }
+    ensures refused { IfErr result (λ r. r ≢ refusal.ReadFault → r ≢ refusal.OutOfMemory → IfSome (P.left probes.old) (λ answers. refusal_in answers ≡ Some r)) }
+    ensures refused_at { IfErr result (λ r. IsRefusedAt (P.progress probes.new) r) }
+    ensures fault { result ≡ Err refusal.ReadFault → Rose (P.faults probes.old) (P.faults probes.new) }
+    ensures never_falls { P.faults probes.old ≤ P.faults probes.new }
+{
+    let mut stream = Listed {
+        harts: 0,
+        wide: false,
+        records: Vec::new(alloc),
+    };
+    loop {
+        match probes.next() {
+            Next::Header { harts, wide } => {
+                stream.harts = harts;
+                stream.wide = wide;
+            }
+            Next::Event(event) => match list(&mut stream.records, event) {
+                Ok(()) => {}
+                Err(refusal) => return Err(refusal),
+            },
+            Next::End { .. } => return Ok(stream),
+            Next::Malformed { offset } => return Err(Refusal::Malformed { offset }),
+            Next::Limit { what, number } => return Err(Refusal::Limit { what, number }),
+            Next::ReadFault => return Err(Refusal::ReadFault),
+            Next::OutOfMemory => return Err(Refusal::OutOfMemory),
+        }
+    }
+}
+
+/// Adds a record, where it is judged.
+fn list(records: &mut Vec<Record>, event: Record) -> Result<(), Refusal>
+    requires { IsLawful event }
+    ensures listed { OnOk result (records.new.items ≡ records.old.items ++ event ∷ []) }
+    ensures built { OnOk result (is_built event ≡ true) }
+    ensures unbuilt { IfErr result (λ r. IsUnbuiltAt (length records.old.items) event r) }
+{
+    if !is_built(&event) {
+        return Err(Refusal::Unbuilt {
+            number: records.len() as u64,
+        });
+    }
+    match records.push(event) {
+        Ok(()) => Ok(()),
+        Err(_) => Err(Refusal::OutOfMemory),
+    }
+}
