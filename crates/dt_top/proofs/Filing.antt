@@ -11,11 +11,13 @@ use Rattle.dt_probe_file.specs.Told.{answers_of}
 use Rattle.dt_dump.specs.Dump.{AppendsPart, IsCutShort, dump_text, end_of, last_status, memory_line, read_fault_line, stream_status}
 use Rattle.dt_convert.specs.Convert.{converted}
 use Rattle.dt_words.specs.declared.commands.Task.{Task}
-use Rattle.dt_words.specs.declared.commands.Task.TheVariants.{Dump, Convert}
+use Rattle.dt_verdict.specs.declared.answers.Refusal.{Refusal}
+use Rattle.dt_verdict.specs.declared.answers.Refusal.TheVariants as refusal
+use Rattle.dt_words.specs.declared.commands.Task.TheVariants.{Pass, Dump, Convert}
 use Rattle.dt_words.specs.Table.{Asked}
-use Rattle.dt_top.specs.Answer.{Answer, answer, version_named, AsksForFile, EndsAtLimit, EndsMalformed, IsAnswer, StopsWith, WhereRead, WhereTold}
+use Rattle.dt_top.specs.Answer.{Answer, answer, refusal_of, refusal_status, version_named, AsksFor, AsksForFile, EndsAtLimit, EndsMalformed, IsAnswer, IsRefusedUnbuilt, MeetsLimit, MeetsMalformed, StopsWith, WhereRead, WhereTold}
 use Rattle.dt_top.specs.Running.{Ran}
-use Rattle.dt_top.proofs.Tasks.{not_dump, not_convert, dump_is_not_convert, either, where_dump, where_convert}
+use Rattle.dt_top.proofs.Tasks.{not_dump, not_convert, dump_is_not_convert, either, of_bytes, where_dump, where_convert}
 
 -- what the run of a stream says of itself, whatever its text is
 pub record Streamed (told : Option (List Next)) (last_answer : Option Next) (text_of : List Next → List ℕ) (cut : List ℕ → Option (List Next) → List ℕ → Type 0)
@@ -33,6 +35,7 @@ pub record Streamed (told : Option (List Next)) (last_answer : Option Next) (tex
 -- what the words of such a task mean
 pub record IsFileTask (asked : Asked) (probes : Option (List ℕ)) (text_of : List Next → List ℕ) (cut : List ℕ → Option (List Next) → List ℕ → Type 0) : Type 0 where
   pub asks : AsksForFile (Some asked)
+  pub no_check : asked.task ≢ Pass
   pub is_answer : (i b : List ℕ) (status : ℕ) (text : List ℕ) → status ≡ stream_status (answers_of b) → text ≡ text_of (answers_of b) → IsAnswer (Some asked) i b (answer status text)
   pub stops : (line text : List ℕ) → cut line (option_map answers_of probes) text → StopsWith line (Some asked) probes text
 
@@ -46,6 +49,15 @@ last_is_not_2 (Malformed offset) = λ e. cc
 last_is_not_2 (Limit what number) = λ e. cc
 last_is_not_2 ReadFault = λ e. cc
 last_is_not_2 OutOfMemory = λ e. cc
+
+pub last_is_not_3 : (last : Next) → last_status last ≢ 3
+last_is_not_3 (Header harts wide) = λ e. cc
+last_is_not_3 (Event r) = λ e. cc
+last_is_not_3 (End count) = λ e. cc
+last_is_not_3 (Malformed offset) = λ e. cc
+last_is_not_3 (Limit what number) = λ e. cc
+last_is_not_3 ReadFault = λ e. cc
+last_is_not_3 OutOfMemory = λ e. cc
 
 pub last_is_not_9 : (last : Next) → last_status last ≢ 9
 last_is_not_9 (Header harts wide) = λ e. cc
@@ -80,12 +92,6 @@ limit_end (Some (Limit what number)) e = (what, number, refl)
 limit_end (Some ReadFault) e = cc
 limit_end (Some OutOfMemory) e = cc
 
--- ---- what is told of the answers is told of the bytes
-
-of_bytes : (probes : Option (List ℕ)) (P : List Next → Type 0) (Q : List ℕ → Type 0) → IfSome (option_map answers_of probes) P → ((b : List ℕ) → P (answers_of b) → Q b) → IfSome probes Q
-of_bytes None P Q h go = tt
-of_bytes (Some b) P Q h go = go b h
-
 -- ---- the run
 
 pub ran_of_stream : (asked : Asked) (image probes : Option (List ℕ)) (image_old image_new probes_old probes_new out_old out_new : ℕ) (before after : Option (List ℕ)) (status : ℕ)
@@ -99,17 +105,19 @@ ran_of_stream asked image probes image_old image_new probes_old probes_new out_o
       (λ b h. (text_of (answers_of b), h.1, task.is_answer i b status (text_of (answers_of b)) h.0 refl)));
   usage = λ two. absurd (not_status ended status 2 last_is_not_2 (s.ended (λ e. cc) (λ e. cc)) two);
   usage_comes = λ none. cc;
+  too_long = λ three. absurd (not_status ended status 3 last_is_not_3 (s.ended (λ e. cc) (λ e. cc)) three);
   malformed = λ four. (
-    task.asks,
-    of_bytes probes (λ answers. (status ≡ stream_status answers) × Appends before (text_of answers) after) EndsMalformed (s.whole (λ e. cc) (λ e. cc) (λ e. cc))
-        (λ b h. malformed_end (end_of (answers_of b)) (sym h.0 ∙ four)),
+    refl,
+    of_bytes probes (λ answers. (status ≡ stream_status answers) × Appends before (text_of answers) after) (MeetsMalformed (Some asked)) (s.whole (λ e. cc) (λ e. cc) (λ e. cc))
+        (λ b h. inl (task.asks, malformed_end (end_of (answers_of b)) (sym h.0 ∙ four))),
   );
   limit = λ eight. (
-    task.asks,
-    of_bytes probes (λ answers. (status ≡ stream_status answers) × Appends before (text_of answers) after) EndsAtLimit (s.whole (λ e. cc) (λ e. cc) (λ e. cc))
-        (λ b h. limit_end (end_of (answers_of b)) (sym h.0 ∙ eight)),
+    refl,
+    of_bytes probes (λ answers. (status ≡ stream_status answers) × Appends before (text_of answers) after) (MeetsLimit (Some asked)) (s.whole (λ e. cc) (λ e. cc) (λ e. cc))
+        (λ b h. inl (task.asks, limit_end (end_of (answers_of b)) (sym h.0 ∙ eight))),
   );
   unbuilt = λ nine. absurd (not_status ended status 9 last_is_not_9 (s.ended (λ e. cc) (λ e. cc)) nine);
+  refused_comes = λ r asks. absurd (task.no_check asks);
   read_fault = λ five.
       let text = s.read_fault_text five in
       inr (s.read_fault five, text.0, task.stops read_fault_line text.0 text.1, text.2);
@@ -145,10 +153,12 @@ same_answer status text_status text other a b = ap (λ n. answer n text) a ∙ a
 pub dump_task : (asked : Asked) (probes : Option (List ℕ)) → asked.task ≡ Dump → IsFileTask asked probes dump_text dump_cut
 dump_task asked probes is = record {
   asks = inl is;
+  no_check = λ other. not_dump asked.task other is;
   is_answer = λ i b status text a t. record {
     usage = λ none. cc;
-    unbuilt = λ other. absurd (not_dump asked.task other is);
-    report = λ other. absurd (not_dump asked.task other is);
+    too_long = λ other. absurd (not_dump asked.task other is);
+    refused = λ r other. absurd (not_dump asked.task other is);
+    report = λ sources other. absurd (not_dump asked.task other.0 is);
     dump = λ _. same_answer status _ text _ a t;
     convert = λ to other. absurd (dump_is_not_convert asked.task is other.0);
   };
@@ -158,10 +168,12 @@ dump_task asked probes is = record {
 pub convert_task : (asked : Asked) (probes : Option (List ℕ)) → asked.task ≡ Convert → IsFileTask asked probes (converted (version_named asked.to)) convert_cut
 convert_task asked probes is = record {
   asks = inr is;
+  no_check = λ other. not_convert asked.task other is;
   is_answer = λ i b status text a t. record {
     usage = λ none. cc;
-    unbuilt = λ other. absurd (not_convert asked.task other is);
-    report = λ other. absurd (not_convert asked.task other is);
+    too_long = λ other. absurd (not_convert asked.task other is);
+    refused = λ r other. absurd (not_convert asked.task other is);
+    report = λ sources other. absurd (not_convert asked.task other.0 is);
     dump = λ other. absurd (dump_is_not_convert asked.task other is);
     convert = λ to other. same_answer status _ text _ a (t ∙ ap (λ n. converted (version_named n) (answers_of b)) other.1);
   };
@@ -211,15 +223,26 @@ status_at (Some asked) image b _ _ _ _ _ _ before after status ran asks five six
     ap (λ (a : Answer). a.status) (said.2.convert asked.to (is, refl)))
 
 pub malformed_comes : (asked : Option Asked) (image probes : Option (List ℕ)) (image_old image_new probes_old probes_new out_old out_new : ℕ) (before after : Option (List ℕ)) (status : ℕ)
-    → Ran asked image probes image_old image_new probes_old probes_new out_old out_new before after status → AsksForFile asked → IsSomeAnd probes EndsMalformed
-    → status ≢ 5 → status ≢ 6 → status ≢ 7 → status ≡ 4
-malformed_comes asked image None _ _ _ _ _ _ before after status ran asks ends five six seven = absurd ends
-malformed_comes asked image (Some b) _ _ _ _ _ _ before after status ran asks ends five six seven =
-    status_at asked image b _ _ _ _ _ _ before after status ran asks five six seven ∙ ap (λ (o : Option Next). option_map_or last_status o 0) ends.1
+    → Ran asked image probes image_old image_new probes_old probes_new out_old out_new before after status
+    → IsSomeAnd probes (MeetsMalformed asked) → status ≢ 3 → status ≢ 5 → status ≢ 6 → status ≢ 7 → status ≡ 4
+malformed_comes asked image None _ _ _ _ _ _ before after status ran met three five six seven = absurd met
+malformed_comes asked image (Some b) _ _ _ _ _ _ before after status ran met three five six seven =
+    either met
+    (λ m. status_at asked image b _ _ _ _ _ _ before after status ran m.0 five six seven ∙ ap (λ (o : Option Next). option_map_or last_status o 0) m.1.1)
+    (λ m. ran.refused_comes (refusal.Malformed m.1.0) m.0 m.1.1 three five six seven)
 
 pub limit_comes : (asked : Option Asked) (image probes : Option (List ℕ)) (image_old image_new probes_old probes_new out_old out_new : ℕ) (before after : Option (List ℕ)) (status : ℕ)
-    → Ran asked image probes image_old image_new probes_old probes_new out_old out_new before after status → AsksForFile asked → IsSomeAnd probes EndsAtLimit
-    → status ≢ 5 → status ≢ 6 → status ≢ 7 → status ≡ 8
-limit_comes asked image None _ _ _ _ _ _ before after status ran asks ends five six seven = absurd ends
-limit_comes asked image (Some b) _ _ _ _ _ _ before after status ran asks ends five six seven =
-    status_at asked image b _ _ _ _ _ _ before after status ran asks five six seven ∙ ap (λ (o : Option Next). option_map_or last_status o 0) ends.2
+    → Ran asked image probes image_old image_new probes_old probes_new out_old out_new before after status
+    → IsSomeAnd probes (MeetsLimit asked) → status ≢ 3 → status ≢ 5 → status ≢ 6 → status ≢ 7 → status ≡ 8
+limit_comes asked image None _ _ _ _ _ _ before after status ran met three five six seven = absurd met
+limit_comes asked image (Some b) _ _ _ _ _ _ before after status ran met three five six seven =
+    either met
+    (λ m. status_at asked image b _ _ _ _ _ _ before after status ran m.0 five six seven ∙ ap (λ (o : Option Next). option_map_or last_status o 0) m.1.2)
+    (λ m. ran.refused_comes (refusal.Limit m.1.0 m.1.1) m.0 m.1.2 three five six seven)
+
+pub unbuilt_comes : (asked : Option Asked) (image probes : Option (List ℕ)) (image_old image_new probes_old probes_new out_old out_new : ℕ) (before after : Option (List ℕ)) (status : ℕ)
+    → Ran asked image probes image_old image_new probes_old probes_new out_old out_new before after status
+    → AsksFor Pass asked → IsSomeAnd probes IsRefusedUnbuilt → status ≢ 3 → status ≢ 5 → status ≢ 6 → status ≢ 7 → status ≡ 9
+unbuilt_comes asked image None _ _ _ _ _ _ before after status ran asks met three five six seven = absurd met
+unbuilt_comes asked image (Some b) _ _ _ _ _ _ before after status ran asks met three five six seven =
+    ran.refused_comes (refusal.Unbuilt met.0) asks met.1 three five six seven

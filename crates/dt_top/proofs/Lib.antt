@@ -1,10 +1,4 @@
-pub mod Answering
-pub mod Counting
-pub mod Fields
+pub mod Checking
 pub mod Filing
-pub mod Lines
 pub mod Replying
-pub mod Runs
-pub mod Stops
 pub mod Tasks
-pub mod WholeFile

@@ -1,253 +1,338 @@
 -- What a reply to words comes to.
-use Rattle.std.proofs.Common.{◌≡◌, ◌≢◌, ◌⊎◌, ℕ, List, [], Option, Some, None, IfSome, refl, sym, ap, ◌∙◌, subst, inl, inr}
+use Rattle.std.proofs.Common.{◌≡◌, ◌≢◌, ◌≤◌, ◌<◌, ◌⊎◌, ℕ, Bool, List, [], length, Option, Some, None, Result, Ok, Err, IfSome, IsSomeAnd, refl, sym, ap, ◌∙◌, subst, inl, inr, arith}
 use Rattle.std.specs.String.{string_bytes}
+use Rattle.std.specs.Prelude.{nat_le}
+use Rattle.std.proofs.lemmas.Bool.{cases_eq}
 use Rattle.dt_source.specs.Faults.{Rose}
 use Rattle.dt_source.specs.Known.{Appends}
-use Rattle.dt_record.specs.declared.records.Record.{Record}
-use Rattle.dt_record.specs.ProbeFile.{no_stamps}
+use Rattle.dt_record.specs.declared.writes.What.{What}
 use Rattle.dt_dump.specs.Dump.{memory_line, read_fault_line}
+use Rattle.dt_image.specs.declared.images.ImageRefusal.{ImageRefusal}
+use Rattle.dt_image.specs.declared.images.ImageRefusal.TheVariants as image_refusal
+use Rattle.dt_image.specs.Loading.{loaded}
+use Rattle.dt_verdict.specs.declared.answers.Refusal.{Refusal}
+use Rattle.dt_verdict.specs.declared.answers.Refusal.TheVariants.{Malformed, Limit, ReadFault, Unbuilt, OutOfMemory}
+use Rattle.dt_verdict.specs.declared.verdicts.Verdict.{Verdict}
+use Rattle.dt_verdict.specs.declared.verdicts.Verdict.TheVariants.{Pass, Fail}
 use Rattle.dt_words.specs.declared.commands.Task.TheVariants as tasks
 use Rattle.dt_words.specs.Table.{Asked}
-use Rattle.dt_top.specs.declared.verdicts.Verdict.{Verdict}
-use Rattle.dt_top.specs.declared.verdicts.Verdict.TheVariants.{Pass, Fail}
 use Rattle.dt_top.specs.declared.replies.Reply.{Reply}
-use Rattle.dt_top.specs.declared.replies.Reply.TheVariants.{Usage, ReadFaultImage, ReadFaultProbes, Unbuilt, Report, OutOfMemory}
-use Rattle.dt_top.specs.Answer.{Answer, answer, verdict_status, usage_answer, unbuilt_answer, AsksFor, IsAnswer, WhereTold, MayWrite}
-use Rattle.dt_top.specs.Built.{IsBuiltInput}
-use Rattle.dt_top.specs.Replies.{answer_by, IsCheckReply}
-use Rattle.dt_top.specs.Report.{report_text}
+use Rattle.dt_top.specs.declared.replies.Reply.TheVariants as reply
+use Rattle.dt_top.specs.Answer.{Answer, answer, verdict_status, usage_answer, too_long_answer, image_fault_answer, memory_answer, refusal_answer, refusal_line, refusal_of, refusal_status, AsksFor, IsAnswer, IsReport, IsTooLong, MayWrite, MeetsLimit, MeetsMalformed, WhereTold}
+use Rattle.dt_top.specs.Replies.{answer_by, CameOf, IsPassReply}
 use Rattle.dt_top.specs.Running.{IsPut, Ran}
-use Rattle.dt_top.specs.Verdict.{IsVerdict}
-use Rattle.dt_top.proofs.Answering.{file_is_one, verdict_is_one}
-use Rattle.dt_top.proofs.Counting.{own_records}
-use Rattle.dt_top.proofs.Tasks.{either, not_dump, not_convert, where_pass, both_map, where_map}
-
--- a reply that no fault and no want of memory made
-pub record IsOwn (reply : Reply) : Type 0 where
-  pub image : reply ≢ ReadFaultImage
-  pub probes : reply ≢ ReadFaultProbes
-  pub memory : reply ≢ OutOfMemory
+use Rattle.dt_top.proofs.Tasks.{both_told, either, not_dump, not_convert, some_map, where_map, where_pass}
 
 -- ---- the answer
 
-pub usage_is_answer : (i b : List ℕ) → IsAnswer None i b usage_answer
+usage_is_answer : (i b : List ℕ) → IsAnswer None i b usage_answer
 usage_is_answer i b = record {
   usage = λ _. refl;
-  unbuilt = λ is. absurd is;
-  report = λ is. absurd is;
+  too_long = λ is. absurd is;
+  refused = λ r is. absurd is;
+  report = λ sources is. absurd is;
   dump = λ is. absurd is;
   convert = λ to is. absurd is;
 }
 
-report_is_answer : (asked : Asked) (i b : List ℕ) (v : Verdict) (text : _) → asked.task ≡ tasks.Pass → IsCheckReply i b (Report v text) → IsAnswer (Some asked) i b (answer_by (Report v text))
-report_is_answer asked i b v text is told = record {
+too_long_is_answer : (asked : Asked) (i b : List ℕ) → asked.task ≡ tasks.Pass → IsTooLong i → IsAnswer (Some asked) i b too_long_answer
+too_long_is_answer asked i b is long = record {
   usage = λ none. cc;
-  unbuilt = λ _ none. absurd (none told.0 told.1);
-  report = λ _ records w input verdict.
-      let same : told.0 ≡ records = file_is_one b told.0 records told.1.file input.file in
-      let own = own_records no_stamps records input.file.is_file.each in
-      let mine = subst (λ (z : List Record). IsVerdict i 1 z v) same told.2 in
-      let one : v ≡ w = verdict_is_one i records own v w mine verdict in
-      let written = told.3 ∙ ap (λ (z : List Record). report_text 1 z v []) same ∙ ap (λ (z : Verdict). report_text 1 records z []) one in
-      ap (λ (z : Verdict). answer (verdict_status z) (string_bytes text)) one ∙ ap (λ z. answer (verdict_status w) z) written;
+  too_long = λ _ _. refl;
+  refused = λ r _ fits. absurd (omega (arith, long, fits));
+  report = λ sources _ fits. absurd (omega (arith, long, fits));
   dump = λ other. absurd (not_dump asked.task is other);
   convert = λ to other. absurd (not_convert asked.task is other.0);
 }
 
-unbuilt_is_answer : (asked : Asked) (i b : List ℕ) → asked.task ≡ tasks.Pass → IsCheckReply i b Unbuilt → IsAnswer (Some asked) i b unbuilt_answer
-unbuilt_is_answer asked i b is told = record {
+refused_is_answer : (asked : Asked) (i b : List ℕ) (r : Refusal) (line : List ℕ) → asked.task ≡ tasks.Pass → length i ≤ 16777216
+    → line ≡ refusal_line r → refusal_of b ≡ Some r → IsAnswer (Some asked) i b (answer (refusal_status r) line)
+refused_is_answer asked i b r line is fits written told = record {
   usage = λ none. cc;
-  unbuilt = λ _ _. refl;
-  report = λ _ records _ input _. absurd (told records input);
+  too_long = λ _ long. absurd (omega (arith, long, fits));
+  refused = λ s _ _ found.
+      let same : r ≡ s = let e = sym told ∙ found in cc in
+      subst (λ (x : Refusal). answer (refusal_status r) line ≡ refusal_answer x) same (ap (λ t. answer (refusal_status r) t) written);
+  report = λ sources _ _ none. let e = sym told ∙ none in cc;
   dump = λ other. absurd (not_dump asked.task is other);
   convert = λ to other. absurd (not_convert asked.task is other.0);
 }
 
-pass_is_answer : (asked : Asked) (i b : List ℕ) (reply : Reply) → asked.task ≡ tasks.Pass → IsOwn reply → IsCheckReply i b reply → IsAnswer (Some asked) i b (answer_by reply)
-pass_is_answer asked i b Usage is own told = absurd told
-pass_is_answer asked i b ReadFaultImage is own told = absurd (own.image refl)
-pass_is_answer asked i b ReadFaultProbes is own told = absurd (own.probes refl)
-pass_is_answer asked i b Unbuilt is own told = unbuilt_is_answer asked i b is told
-pass_is_answer asked i b (Report v text) is own told = report_is_answer asked i b v text is told
-pass_is_answer asked i b OutOfMemory is own told = absurd (own.memory refl)
+report_is_answer : (asked : Asked) (i b : List ℕ) (a : Answer) → asked.task ≡ tasks.Pass → length i ≤ 16777216
+    → refusal_of b ≡ None → IsReport i b asked.sources a → IsAnswer (Some asked) i b a
+report_is_answer asked i b a is fits none reported = record {
+  usage = λ nothing. cc;
+  too_long = λ _ long. absurd (omega (arith, long, fits));
+  refused = λ s _ _ found. let e = sym none ∙ found in cc;
+  report = λ sources asks _ _. subst (λ (x : Bool). IsReport i b x a) asks.1 reported;
+  dump = λ other. absurd (not_dump asked.task is other);
+  convert = λ to other. absurd (not_convert asked.task is other.0);
+}
 
--- ---- the reply, by its status
+-- ---- statuses
 
-status_of : Reply → ℕ
-status_of reply = (answer_by reply).status
+verdict_is_small : (v : Verdict) → verdict_status v ≤ 1
+verdict_is_small Pass = omega arith
+verdict_is_small (Fail f) = omega arith
 
-verdict_of_2 : (v : Verdict) → verdict_status v ≡ 2 → ⊥
-verdict_of_2 Pass e = cc
-verdict_of_2 (Fail f) e = cc
+refusal_is_great : (r : Refusal) → 4 ≤ refusal_status r
+refusal_is_great (Malformed offset) = omega arith
+refusal_is_great (Limit what number) = omega arith
+refusal_is_great ReadFault = omega arith
+refusal_is_great (Unbuilt number) = omega arith
+refusal_is_great OutOfMemory = omega arith
 
-verdict_of_4 : (v : Verdict) → verdict_status v ≡ 4 → ⊥
-verdict_of_4 Pass e = cc
-verdict_of_4 (Fail f) e = cc
+at_4 : (r : Refusal) → refusal_status r ≡ 4 → (offset : ℕ) × (r ≡ Malformed offset)
+at_4 (Malformed offset) e = (offset, refl)
+at_4 (Limit what number) e = cc
+at_4 ReadFault e = cc
+at_4 (Unbuilt number) e = cc
+at_4 OutOfMemory e = cc
 
-verdict_of_5 : (v : Verdict) → verdict_status v ≡ 5 → ⊥
-verdict_of_5 Pass e = cc
-verdict_of_5 (Fail f) e = cc
+at_5 : (r : Refusal) → refusal_status r ≡ 5 → r ≡ ReadFault
+at_5 (Malformed offset) e = cc
+at_5 (Limit what number) e = cc
+at_5 ReadFault e = refl
+at_5 (Unbuilt number) e = cc
+at_5 OutOfMemory e = cc
 
-verdict_of_7 : (v : Verdict) → verdict_status v ≡ 7 → ⊥
-verdict_of_7 Pass e = cc
-verdict_of_7 (Fail f) e = cc
+at_7 : (r : Refusal) → refusal_status r ≡ 7 → r ≡ OutOfMemory
+at_7 (Malformed offset) e = cc
+at_7 (Limit what number) e = cc
+at_7 ReadFault e = cc
+at_7 (Unbuilt number) e = cc
+at_7 OutOfMemory e = refl
 
-verdict_of_8 : (v : Verdict) → verdict_status v ≡ 8 → ⊥
-verdict_of_8 Pass e = cc
-verdict_of_8 (Fail f) e = cc
+at_8 : (r : Refusal) → refusal_status r ≡ 8 → (what : What) × (number : ℕ) × (r ≡ Limit what number)
+at_8 (Malformed offset) e = cc
+at_8 (Limit what number) e = (what, number, refl)
+at_8 ReadFault e = cc
+at_8 (Unbuilt number) e = cc
+at_8 OutOfMemory e = cc
 
-verdict_of_9 : (v : Verdict) → verdict_status v ≡ 9 → ⊥
-verdict_of_9 Pass e = cc
-verdict_of_9 (Fail f) e = cc
-
-reply_of_2 : (reply : Reply) → (answer_by reply).status ≡ 2 → reply ≡ Usage
-reply_of_2 Usage e = refl
-reply_of_2 ReadFaultImage e = cc
-reply_of_2 ReadFaultProbes e = cc
-reply_of_2 Unbuilt e = cc
-reply_of_2 (Report v text) e = absurd (verdict_of_2 v e)
-reply_of_2 OutOfMemory e = cc
-
-reply_of_4 : (reply : Reply) → (answer_by reply).status ≡ 4 → ⊥
-reply_of_4 Usage e = cc
-reply_of_4 ReadFaultImage e = cc
-reply_of_4 ReadFaultProbes e = cc
-reply_of_4 Unbuilt e = cc
-reply_of_4 (Report v text) e = verdict_of_4 v e
-reply_of_4 OutOfMemory e = cc
-
-reply_of_5 : (reply : Reply) → (answer_by reply).status ≡ 5 → (reply ≡ ReadFaultImage) ⊎ (reply ≡ ReadFaultProbes)
-reply_of_5 Usage e = cc
-reply_of_5 ReadFaultImage e = inl refl
-reply_of_5 ReadFaultProbes e = inr refl
-reply_of_5 Unbuilt e = cc
-reply_of_5 (Report v text) e = absurd (verdict_of_5 v e)
-reply_of_5 OutOfMemory e = cc
-
-reply_of_7 : (reply : Reply) → (answer_by reply).status ≡ 7 → reply ≡ OutOfMemory
-reply_of_7 Usage e = cc
-reply_of_7 ReadFaultImage e = cc
-reply_of_7 ReadFaultProbes e = cc
-reply_of_7 Unbuilt e = cc
-reply_of_7 (Report v text) e = absurd (verdict_of_7 v e)
-reply_of_7 OutOfMemory e = refl
-
-reply_of_8 : (reply : Reply) → (answer_by reply).status ≡ 8 → ⊥
-reply_of_8 Usage e = cc
-reply_of_8 ReadFaultImage e = cc
-reply_of_8 ReadFaultProbes e = cc
-reply_of_8 Unbuilt e = cc
-reply_of_8 (Report v text) e = verdict_of_8 v e
-reply_of_8 OutOfMemory e = cc
-
-reply_of_9 : (reply : Reply) → (answer_by reply).status ≡ 9 → reply ≡ Unbuilt
-reply_of_9 Usage e = cc
-reply_of_9 ReadFaultImage e = cc
-reply_of_9 ReadFaultProbes e = cc
-reply_of_9 Unbuilt e = refl
-reply_of_9 (Report v text) e = absurd (verdict_of_9 v e)
-reply_of_9 OutOfMemory e = cc
+at_9 : (r : Refusal) → refusal_status r ≡ 9 → (number : ℕ) × (r ≡ Unbuilt number)
+at_9 (Malformed offset) e = cc
+at_9 (Limit what number) e = cc
+at_9 ReadFault e = cc
+at_9 (Unbuilt number) e = (number, refl)
+at_9 OutOfMemory e = cc
 
 -- ---- the run
-
--- a reply that came of what words ask for
-pub record CameOf (asked : Option Asked) (image probes : Option (List ℕ)) (image_old image_new probes_old probes_new : ℕ) (reply : Reply) : Type 0 where
-  pub own : IsOwn reply → WhereTold asked image probes (λ i b. IsAnswer asked i b (answer_by reply))
-  pub usage : reply ≡ Usage → asked ≡ None
-  pub usage_comes : asked ≡ None → (reply ≡ Usage) ⊎ (reply ≡ OutOfMemory)
-  pub unbuilt : reply ≡ Unbuilt → AsksFor tasks.Pass asked
-      × IfSome image (λ i. IfSome probes (λ b. (records : List Record) → IsBuiltInput i b records → ⊥))
-  pub image_fault : reply ≡ ReadFaultImage → Rose image_old image_new × AsksFor tasks.Pass asked
-  pub probes_fault : reply ≡ ReadFaultProbes → Rose probes_old probes_new
 
 own_may : (asked : Option Asked) (image probes : Option (List ℕ)) (a : Answer) → WhereTold asked image probes (λ i b. IsAnswer asked i b a)
     → WhereTold asked image probes (λ i b. (status : ℕ) × IsAnswer asked i b (answer status a.text))
 own_may asked image probes a h = where_map asked image probes (λ i b. IsAnswer asked i b a) (λ i b. (status : ℕ) × IsAnswer asked i b (answer status a.text)) h (λ i b said. (a.status, said))
 
-may_write : (asked : Option Asked) (image probes : Option (List ℕ)) (image_old image_new probes_old probes_new : ℕ) (reply : Reply)
-    → CameOf asked image probes image_old image_new probes_old probes_new reply
-    → MayWrite asked image probes (Rose image_old image_new) (Rose probes_old probes_new) (answer_by reply).text
-may_write asked image probes _ _ _ _ Usage came = inl (own_may asked image probes _ (came.own (record { image = λ e. cc; probes = λ e. cc; memory = λ e. cc })))
-may_write asked image probes _ _ _ _ ReadFaultImage came = let f = came.image_fault refl in inr (inl (f.0, f.1, refl))
-may_write asked image probes _ _ _ _ ReadFaultProbes came = inr (inr (inl (came.probes_fault refl, inl refl)))
-may_write asked image probes _ _ _ _ Unbuilt came = inl (own_may asked image probes _ (came.own (record { image = λ e. cc; probes = λ e. cc; memory = λ e. cc })))
-may_write asked image probes _ _ _ _ (Report v text) came = inl (own_may asked image probes _ (came.own (record { image = λ e. cc; probes = λ e. cc; memory = λ e. cc })))
-may_write asked image probes _ _ _ _ OutOfMemory came = inr (inr (inr (inl refl)))
+may_write : (asked : Option Asked) (image probes : Option (List ℕ)) (image_old image_new probes_old probes_new : ℕ) (a : Answer)
+    → CameOf asked image probes image_old image_new probes_old probes_new a
+    → MayWrite asked image probes (Rose image_old image_new) (Rose probes_old probes_new) a.text
+may_write asked image probes image_old image_new probes_old probes_new a came =
+    elim (cases_eq a.status 5) [
+      | inl five ↦ either (came.read_fault five) (λ f. inr (inl f)) (λ f. inr (inr (inl (f.0, inl f.1))))
+      | inr not_five ↦
+        elim (cases_eq a.status 7) [
+          | inl seven ↦ inr (inr (inr (inl (came.memory seven))))
+          | inr not_seven ↦ inl (own_may asked image probes a (came.own not_five not_seven))
+        ]
+    ]
 
-pub ran_of_reply : (asked : Option Asked) (image probes : Option (List ℕ)) (image_old image_new probes_old probes_new out_old out_new : ℕ) (before after : Option (List ℕ)) (reply : Reply) (status : ℕ)
-    → CameOf asked image probes image_old image_new probes_old probes_new reply
-    → IsPut (answer_by reply) out_old out_new before after status
+pub ran_of_reply : (asked : Option Asked) (image probes : Option (List ℕ)) (image_old image_new probes_old probes_new out_old out_new : ℕ) (before after : Option (List ℕ)) (a : Answer) (status : ℕ)
+    → CameOf asked image probes image_old image_new probes_old probes_new a
+    → IsPut a out_old out_new before after status
     → Ran asked image probes image_old image_new probes_old probes_new out_old out_new before after status
-unfolding status_of
-ran_of_reply asked image probes image_old image_new probes_old probes_new out_old out_new before after reply status came put = record {
+ran_of_reply asked image probes image_old image_new probes_old probes_new out_old out_new before after a status came put = record {
   whole = λ five six seven.
       let w = put.whole six in
-      let own : IsOwn reply = record { image = λ e. five (w.0 ∙ ap status_of e); probes = λ e. five (w.0 ∙ ap status_of e); memory = λ e. seven (w.0 ∙ ap status_of e) } in
-      where_map asked image probes (λ i b. IsAnswer asked i b (answer_by reply)) (λ i b. (text : List ℕ) × Appends before text after × IsAnswer asked i b (answer status text)) (came.own own)
-      (λ i b said. ((answer_by reply).text, w.1, subst (λ (n : ℕ). IsAnswer asked i b (answer n (answer_by reply).text)) (sym w.0) said));
+      where_map asked image probes (λ i b. IsAnswer asked i b a) (λ i b. (text : List ℕ) × Appends before text after × IsAnswer asked i b (answer status text))
+      (came.own (λ e. five (w.0 ∙ e)) (λ e. seven (w.0 ∙ e)))
+      (λ i b said. (a.text, w.1, subst (λ (n : ℕ). IsAnswer asked i b (answer n a.text)) (sym w.0) said));
   usage = λ two.
       let w = put.whole (λ e. cc) in
-      let is = reply_of_2 reply (sym w.0 ∙ two) in
-      (came.usage is, subst (λ (r : Reply). Appends before (answer_by r).text after) is w.1);
+      let u = came.usage (sym w.0 ∙ two) in
+      (u.0, subst (λ (text : List ℕ). Appends before text after) u.1 w.1);
   usage_comes = λ none six seven.
       let w = put.whole six in
-      either (came.usage_comes none) (λ is. w.0 ∙ ap status_of is) (λ is. absurd (seven (w.0 ∙ ap status_of is)));
-  malformed = λ four. let w = put.whole (λ e. cc) in absurd (reply_of_4 reply (sym w.0 ∙ four));
-  limit = λ eight. let w = put.whole (λ e. cc) in absurd (reply_of_8 reply (sym w.0 ∙ eight));
+      w.0 ∙ came.usage_comes none (λ e. seven (w.0 ∙ e));
+  too_long = λ three.
+      let w = put.whole (λ e. cc) in
+      let t = came.too_long (sym w.0 ∙ three) in
+      (t.0, t.1, subst (λ (text : List ℕ). Appends before text after) t.2 w.1);
+  malformed = λ four. let w = put.whole (λ e. cc) in came.malformed (sym w.0 ∙ four);
+  limit = λ eight. let w = put.whole (λ e. cc) in came.limit (sym w.0 ∙ eight);
   unbuilt = λ nine.
       let w = put.whole (λ e. cc) in
-      let is = reply_of_9 reply (sym w.0 ∙ nine) in
-      let u = came.unbuilt is in
-      (u.0, u.1, subst (λ (r : Reply). Appends before (answer_by r).text after) is w.1);
+      let u = came.unbuilt (sym w.0 ∙ nine) in
+      (u.0, u.1, u.2, subst (λ (text : List ℕ). Appends before text after) u.3 w.1);
+  refused_comes = λ r asks found three five six seven.
+      let w = put.whole six in
+      w.0 ∙ came.refused_comes r asks found (λ e. three (w.0 ∙ e)) (λ e. five (w.0 ∙ e)) (λ e. seven (w.0 ∙ e));
   read_fault = λ five.
       let w = put.whole (λ e. cc) in
-      either (reply_of_5 reply (sym w.0 ∙ five))
-      (λ is. let f = came.image_fault is in inl (f.0, f.1, subst (λ (r : Reply). Appends before (answer_by r).text after) is w.1))
-      (λ is. inr (came.probes_fault is, read_fault_line, inl refl, subst (λ (r : Reply). Appends before (answer_by r).text after) is w.1));
+      either (came.read_fault (sym w.0 ∙ five))
+      (λ f. inl (f.0, f.1, subst (λ (text : List ℕ). Appends before text after) f.2 w.1))
+      (λ f. inr (f.0, read_fault_line, inl refl, subst (λ (text : List ℕ). Appends before text after) f.1 w.1));
   memory = λ seven.
       let w = put.whole (λ e. cc) in
-      let is = reply_of_7 reply (sym w.0 ∙ seven) in
-      (memory_line, inl refl, subst (λ (r : Reply). Appends before (answer_by r).text after) is w.1);
+      (memory_line, inl refl, subst (λ (text : List ℕ). Appends before text after) (came.memory (sym w.0 ∙ seven)) w.1);
   write_fault = λ six. (put.fault six).0;
-  write_fault_front = λ six. ((answer_by reply).text, may_write asked image probes image_old image_new probes_old probes_new reply came, (put.fault six).1);
+  write_fault_front = λ six. (a.text, may_write asked image probes image_old image_new probes_old probes_new a came, (put.fault six).1);
 }
 
--- ---- the three replies
+-- ---- the replies
 
-pub of_usage : (asked : Option Asked) (image probes : Option (List ℕ)) (image_old image_new probes_old probes_new : ℕ) → asked ≡ None → CameOf asked image probes image_old image_new probes_old probes_new Usage
+pub of_usage : (asked : Option Asked) (image probes : Option (List ℕ)) (image_old image_new probes_old probes_new : ℕ) → asked ≡ None → CameOf asked image probes image_old image_new probes_old probes_new usage_answer
 of_usage asked image probes image_old image_new probes_old probes_new none = record {
-  own = λ _. subst (λ (q : Option Asked). WhereTold q image probes (λ i b. IsAnswer q i b usage_answer)) (sym none) (λ i b. usage_is_answer i b);
-  usage = λ _. none;
-  usage_comes = λ _. inl refl;
+  own = λ _ _. subst (λ (q : Option Asked). WhereTold q image probes (λ i b. IsAnswer q i b usage_answer)) (sym none) (λ i b. usage_is_answer i b);
+  usage = λ _. (none, refl);
+  usage_comes = λ _ _. refl;
+  too_long = λ e. cc;
+  malformed = λ e. cc;
+  limit = λ e. cc;
   unbuilt = λ e. cc;
-  image_fault = λ e. cc;
-  probes_fault = λ e. cc;
+  refused_comes = λ r asks. absurd (subst (λ (q : Option Asked). AsksFor tasks.Pass q) none asks);
+  read_fault = λ e. cc;
+  memory = λ e. cc;
 }
 
-pub of_memory : (asked : Option Asked) (image probes : Option (List ℕ)) (image_old image_new probes_old probes_new : ℕ) → CameOf asked image probes image_old image_new probes_old probes_new OutOfMemory
+pub of_memory : (asked : Option Asked) (image probes : Option (List ℕ)) (image_old image_new probes_old probes_new : ℕ) → CameOf asked image probes image_old image_new probes_old probes_new memory_answer
 of_memory asked image probes image_old image_new probes_old probes_new = record {
-  own = λ o. absurd (o.memory refl);
+  own = λ _ seven. absurd (seven refl);
   usage = λ e. cc;
-  usage_comes = λ _. inr refl;
+  usage_comes = λ _ seven. absurd (seven refl);
+  too_long = λ e. cc;
+  malformed = λ e. cc;
+  limit = λ e. cc;
   unbuilt = λ e. cc;
-  image_fault = λ e. cc;
-  probes_fault = λ e. cc;
+  refused_comes = λ r asks found three five seven. absurd (seven refl);
+  read_fault = λ e. cc;
+  memory = λ _. refl;
 }
 
-pub of_pass : (asked : Asked) (image probes : Option (List ℕ)) (image_old image_new probes_old probes_new : ℕ) (reply : Reply) → asked.task ≡ tasks.Pass
-    → IfSome image (λ i. IfSome probes (λ b. IsCheckReply i b reply)) → reply ≢ Usage
-    → (reply ≡ ReadFaultImage → Rose image_old image_new) → (reply ≡ ReadFaultProbes → Rose probes_old probes_new)
-    → CameOf (Some asked) image probes image_old image_new probes_old probes_new reply
-of_pass asked image probes image_old image_new probes_old probes_new reply is told no_usage image_fault probes_fault = record {
-  own = λ o. where_pass asked image probes (λ i b. IsAnswer (Some asked) i b (answer_by reply)) is
-      (both_map image probes (λ i b. IsCheckReply i b reply) (λ i b. IsAnswer (Some asked) i b (answer_by reply)) told (λ i b said. pass_is_answer asked i b reply is o said));
-  usage = λ e. absurd (no_usage e);
+pub of_image_fault : (asked : Asked) (image probes : Option (List ℕ)) (image_old image_new probes_old probes_new : ℕ) → asked.task ≡ tasks.Pass → Rose image_old image_new
+    → CameOf (Some asked) image probes image_old image_new probes_old probes_new image_fault_answer
+of_image_fault asked image probes image_old image_new probes_old probes_new is rose = record {
+  own = λ five. absurd (five refl);
+  usage = λ e. cc;
   usage_comes = λ none. cc;
-  unbuilt = λ e. (
-    is,
-    both_map image probes (λ i b. IsCheckReply i b reply) (λ i b. (records : List Record) → IsBuiltInput i b records → ⊥) told
-        (λ i b said. subst (λ (r : Reply). IsCheckReply i b r) e said),
-  );
-  image_fault = λ e. (image_fault e, is);
-  probes_fault = λ e. probes_fault e;
+  too_long = λ e. cc;
+  malformed = λ e. cc;
+  limit = λ e. cc;
+  unbuilt = λ e. cc;
+  refused_comes = λ r asks found three five. absurd (five refl);
+  read_fault = λ _. inl (rose, is, refl);
+  memory = λ e. cc;
 }
+
+-- an image that was not loaded is too long
+long : (bytes : List ℕ) → (let x : Result (List ℕ) ImageRefusal = Err image_refusal.TooLong in x ≡ loaded bytes) → IsTooLong bytes
+long bytes e = by_length (nat_le (length bytes) 16777216) refl
+  where
+    by_length : (t : Bool) → nat_le (length bytes) 16777216 ≡ t → IsTooLong bytes
+    by_length t is = grind arith
+
+-- one that was loaded is not
+fitting : (bytes i : List ℕ) → (let x : Result (List ℕ) ImageRefusal = Ok i in x ≡ loaded bytes) → bytes ≡ i
+fitting bytes i e = grind arith
+
+pub of_too_long : (asked : Asked) (image probes : Option (List ℕ)) (image_old image_new probes_old probes_new : ℕ) → asked.task ≡ tasks.Pass
+    → IfSome image (λ bytes. let x : Result (List ℕ) ImageRefusal = Err image_refusal.TooLong in x ≡ loaded bytes)
+    → CameOf (Some asked) image probes image_old image_new probes_old probes_new too_long_answer
+of_too_long asked image probes image_old image_new probes_old probes_new is told = record {
+  own = λ _ _. where_pass asked image probes (λ i b. IsAnswer (Some asked) i b too_long_answer) is
+      (some_map image _ _ told (λ i e. every i (long i e)));
+  usage = λ e. cc;
+  usage_comes = λ none. cc;
+  too_long = λ _. (is, some_map image _ _ told (λ i e. long i e), refl);
+  malformed = λ e. cc;
+  limit = λ e. cc;
+  unbuilt = λ e. cc;
+  refused_comes = λ r asks found three. absurd (three refl);
+  read_fault = λ e. cc;
+  memory = λ e. cc;
+}
+  where
+    every : (i : List ℕ) → IsTooLong i → IfSome probes (λ b. IsAnswer (Some asked) i b too_long_answer)
+    every i l = at probes
+      where
+        at : (o : Option (List ℕ)) → IfSome o (λ b. IsAnswer (Some asked) i b too_long_answer)
+        at None = tt
+        at (Some b) = too_long_is_answer asked i b is l
+
+-- ---- the reply to an image that was loaded
+
+one_refusal : (probes : Option (List ℕ)) (r s : Refusal) → IfSome probes (λ b. refusal_of b ≡ Some r) → IsSomeAnd probes (λ b. refusal_of b ≡ Some s) → r ≡ s
+one_refusal None r s told found = absurd found
+one_refusal (Some b) r s told found = let e = sym told ∙ found in cc
+
+no_refusal : (probes : Option (List ℕ)) (P : List ℕ → Type 0) (s : Refusal) → IfSome probes (λ b. (refusal_of b ≡ None) × P b) → IsSomeAnd probes (λ b. refusal_of b ≡ Some s) → ⊥
+no_refusal None P s told found = absurd found
+no_refusal (Some b) P s told found = let e = sym told.0 ∙ found in cc
+
+of_refusal : (asked : Asked) (i : List ℕ) (image probes : Option (List ℕ)) (image_old image_new probes_old probes_new : ℕ) (r : Refusal) (line : List ℕ) → asked.task ≡ tasks.Pass
+    → length i ≤ 16777216 → IfSome image (λ bytes. bytes ≡ i)
+    → line ≡ refusal_line r → (r ≡ ReadFault → Rose probes_old probes_new) → (r ≢ ReadFault → r ≢ OutOfMemory → IfSome probes (λ b. refusal_of b ≡ Some r))
+    → CameOf (Some asked) image probes image_old image_new probes_old probes_new (answer (refusal_status r) line)
+of_refusal asked i image probes image_old image_new probes_old probes_new r line is fits known written fault told = record {
+  own = λ five seven. where_pass asked image probes (λ i b. IsAnswer (Some asked) i b (answer (refusal_status r) line)) is
+      (both_told image probes (λ bytes. bytes ≡ i) (λ b. refusal_of b ≡ Some r) (λ i b. IsAnswer (Some asked) i b (answer (refusal_status r) line)) known
+      (told (λ e. five (ap refusal_status e)) (λ e. seven (ap refusal_status e)))
+      (λ bytes b same found. refused_is_answer asked bytes b r line is (subst (λ (z : List ℕ). length z ≤ 16777216) (sym same) fits) written found));
+  usage = λ two. absurd (omega (arith, refusal_is_great r, two));
+  usage_comes = λ none. cc;
+  too_long = λ three. absurd (omega (arith, refusal_is_great r, three));
+  malformed = λ four.
+      let m = at_4 r four in
+      (refl, some_map probes _ _ (told (λ e. cc) (λ e. cc)) (λ b found. inr (is, (m.0, found ∙ ap (λ (x : Refusal). Some x) m.1))));
+  limit = λ eight.
+      let m = at_8 r eight in
+      (refl, some_map probes _ _ (told (λ e. cc) (λ e. cc)) (λ b found. inr (is, (m.0, m.1, found ∙ ap (λ (x : Refusal). Some x) m.2))));
+  unbuilt = λ nine.
+      let m = at_9 r nine in
+      (is, m.0, some_map probes _ _ (told (λ e. cc) (λ e. cc)) (λ b found. found ∙ ap (λ (x : Refusal). Some x) m.1), written ∙ ap refusal_line m.1);
+  refused_comes = λ s asks found three five seven.
+      ap refusal_status (one_refusal probes r s (told (λ e. five (ap refusal_status e)) (λ e. seven (ap refusal_status e))) found);
+  read_fault = λ five. let e = at_5 r five in inr (fault e, written ∙ ap refusal_line e);
+  memory = λ seven. written ∙ ap refusal_line (at_7 r seven);
+}
+
+of_report : (asked : Asked) (i : List ℕ) (image probes : Option (List ℕ)) (image_old image_new probes_old probes_new : ℕ) (v : Verdict) (text : List ℕ) → asked.task ≡ tasks.Pass
+    → length i ≤ 16777216 → IfSome image (λ bytes. bytes ≡ i)
+    → IfSome probes (λ b. (refusal_of b ≡ None) × IsReport i b asked.sources (answer (verdict_status v) text))
+    → CameOf (Some asked) image probes image_old image_new probes_old probes_new (answer (verdict_status v) text)
+of_report asked i image probes image_old image_new probes_old probes_new v text is fits known told = record {
+  own = λ _ _. where_pass asked image probes (λ i b. IsAnswer (Some asked) i b (answer (verdict_status v) text)) is
+      (both_told image probes (λ bytes. bytes ≡ i) (λ b. (refusal_of b ≡ None) × IsReport i b asked.sources (answer (verdict_status v) text)) (λ i b. IsAnswer (Some asked) i b (answer (verdict_status v) text)) known told
+      (λ bytes b same said. report_is_answer asked bytes b (answer (verdict_status v) text) is (subst (λ (z : List ℕ). length z ≤ 16777216) (sym same) fits) said.0
+      (subst (λ (z : List ℕ). IsReport z b asked.sources (answer (verdict_status v) text)) (sym same) said.1)));
+  usage = λ e. absurd (omega (arith, verdict_is_small v, e));
+  usage_comes = λ none. cc;
+  too_long = λ e. absurd (omega (arith, verdict_is_small v, e));
+  malformed = λ e. absurd (omega (arith, verdict_is_small v, e));
+  limit = λ e. absurd (omega (arith, verdict_is_small v, e));
+  unbuilt = λ e. absurd (omega (arith, verdict_is_small v, e));
+  refused_comes = λ s asks found. absurd (no_refusal probes _ s told found);
+  read_fault = λ e. absurd (omega (arith, verdict_is_small v, e));
+  memory = λ e. absurd (omega (arith, verdict_is_small v, e));
+}
+
+of_known : (asked : Asked) (i : List ℕ) (image probes : Option (List ℕ)) (image_old image_new probes_old probes_new : ℕ) (r : Reply) → asked.task ≡ tasks.Pass
+    → length i ≤ 16777216 → IfSome image (λ bytes. bytes ≡ i)
+    → IsPassReply i asked.sources probes probes_old probes_new r
+    → CameOf (Some asked) image probes image_old image_new probes_old probes_new (answer_by r)
+of_known asked i image probes image_old image_new probes_old probes_new reply.Usage is fits known said = absurd said
+of_known asked i image probes image_old image_new probes_old probes_new reply.TooLong is fits known said = absurd said
+of_known asked i image probes image_old image_new probes_old probes_new reply.ReadFaultImage is fits known said = absurd said
+of_known asked i image probes image_old image_new probes_old probes_new (reply.Refused r line) is fits known said =
+    of_refusal asked i image probes image_old image_new probes_old probes_new r (string_bytes line) is fits known said.0 said.1 said.2
+of_known asked i image probes image_old image_new probes_old probes_new (reply.Report v text) is fits known said =
+    of_report asked i image probes image_old image_new probes_old probes_new v text is fits known said
+of_known asked i image probes image_old image_new probes_old probes_new reply.OutOfMemory is fits known said =
+    of_memory (Some asked) image probes image_old image_new probes_old probes_new
+
+pub of_pass : (asked : Asked) (i : List ℕ) (image probes : Option (List ℕ)) (image_old image_new probes_old probes_new : ℕ) (sources : Bool) (r : Reply) → asked.task ≡ tasks.Pass → asked.sources ≡ sources
+    → length i ≤ 16777216 → IfSome image (λ bytes. let x : Result (List ℕ) ImageRefusal = Ok i in x ≡ loaded bytes)
+    → IsPassReply i sources probes probes_old probes_new r
+    → CameOf (Some asked) image probes image_old image_new probes_old probes_new (answer_by r)
+of_pass asked i image probes image_old image_new probes_old probes_new sources r is wants fits loads said =
+    of_known asked i image probes image_old image_new probes_old probes_new r is fits (some_map image _ _ loads (λ bytes e. fitting bytes i e))
+    (subst (λ (s : Bool). IsPassReply i s probes probes_old probes_new r) (sym wants) said)

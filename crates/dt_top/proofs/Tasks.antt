@@ -1,5 +1,8 @@
 -- What is told of what words ask for.
 use Rattle.std.proofs.Common.{◌≡◌, ◌⊎◌, ℕ, List, Option, Some, None, IfSome, sym, subst, inl, inr}
+use Rattle.std.specs.Option.{option_map}
+use Rattle.dt_record.specs.declared.streams.Next.{Next}
+use Rattle.dt_probe_file.specs.Told.{answers_of}
 use Rattle.dt_words.specs.declared.commands.Task.{Task}
 use Rattle.dt_words.specs.declared.commands.Task.TheVariants.{Pass, Dump, Convert}
 use Rattle.dt_words.specs.Table.{Asked}
@@ -42,6 +45,16 @@ pub both_map : (image probes : Option (List ℕ)) (P Q : List ℕ → List ℕ �
     → ((i b : List ℕ) → P i b → Q i b) → IfSome image (λ i. IfSome probes (λ b. Q i b))
 both_map None probes P Q h go = tt
 both_map (Some i) probes P Q h go = some_map probes (P i) (Q i) h (go i)
+
+pub both_told : (image probes : Option (List ℕ)) (A B : List ℕ → Type 0) (P : List ℕ → List ℕ → Type 0) → IfSome image A → IfSome probes B
+    → ((i b : List ℕ) → A i → B b → P i b) → IfSome image (λ i. IfSome probes (λ b. P i b))
+both_told None probes A B P a b go = tt
+both_told (Some i) probes A B P a b go = some_map probes B (P i) b (λ bytes h. go i bytes a h)
+
+-- what is told of the answers is told of the bytes
+pub of_bytes : (probes : Option (List ℕ)) (P : List Next → Type 0) (Q : List ℕ → Type 0) → IfSome (option_map answers_of probes) P → ((b : List ℕ) → P (answers_of b) → Q b) → IfSome probes Q
+of_bytes None P Q h go = tt
+of_bytes (Some b) P Q h go = go b h
 
 read_map : (task : Task) (image probes : Option (List ℕ)) (P Q : List ℕ → List ℕ → Type 0) → WhereRead task image probes P
     → ((i b : List ℕ) → P i b → Q i b) → WhereRead task image probes Q

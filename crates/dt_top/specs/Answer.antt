@@ -1,19 +1,23 @@
-use Rattle.std.specs.Prelude.{ℕ, ◌≡◌, ◌==◌, ◌⊎◌, if◌then◌else◌, List, [], Option, Some, None, option_map, IfSome, IsSomeAnd, codes}
+use Rattle.std.specs.Prelude.{ℕ, ◌≡◌, ◌≤◌, ◌<◌, ◌==◌, ◌⊎◌, Bool, if◌then◌else◌, List, [], ◌∷◌, ◌++◌, length, Option, Some, None, option_map, IfSome, IsSomeAnd, codes}
+use Rattle.std.specs.Fmt.{decimal}
 use Rattle.dt_record.specs.declared.records.Record.{Record}
 use Rattle.dt_record.specs.declared.writes.What.{What}
-use Rattle.dt_record.specs.declared.streams.Next.TheVariants.{Malformed, Limit}
+use Rattle.dt_record.specs.declared.streams.Next.TheVariants as next
 use Rattle.dt_record.specs.Spelling.{Version, One, Two}
 use Rattle.dt_probe_file.specs.Told.{answers_of}
-use Rattle.dt_dump.specs.Dump.{IsCutShort, dump_text, end_of, memory_line, read_fault_line, stream_status}
+use Rattle.dt_dump.specs.Dump.{IsCutShort, dump_text, end_of, last_line, memory_line, read_fault_line, stream_status}
 use Rattle.dt_convert.specs.Convert.{converted}
+use Rattle.dt_verdict.specs.declared.answers.Checked.{Checked}
+use Rattle.dt_verdict.specs.declared.answers.Refusal.{Refusal}
+use Rattle.dt_verdict.specs.declared.answers.Refusal.TheVariants.{Malformed, Limit, ReadFault, Unbuilt, OutOfMemory}
+use Rattle.dt_verdict.specs.declared.verdicts.Verdict.{Verdict}
+use Rattle.dt_verdict.specs.declared.verdicts.Verdict.TheVariants as verdicts
+use Rattle.dt_pass.specs.Checked.{IsChecked}
+use Rattle.dt_pass.specs.Reading.{first_answers, refusal_in}
+use Rattle.dt_report.specs.Report.{report_text}
 use Rattle.dt_words.specs.declared.commands.Task.{Task}
 use Rattle.dt_words.specs.declared.commands.Task.TheVariants.{Pass, Dump, Convert}
 use Rattle.dt_words.specs.Table.{Asked}
-use Rattle.dt_top.specs.declared.verdicts.Verdict.{Verdict}
-use Rattle.dt_top.specs.declared.verdicts.Verdict.TheVariants as verdicts
-use Rattle.dt_top.specs.Built.{IsBuiltInput}
-use Rattle.dt_top.specs.Verdict.{IsVerdict}
-use Rattle.dt_top.specs.Report.{report_text}
 
 -- What the program answers (this project's own).
 
@@ -25,25 +29,64 @@ pub record Answer : Type 0 where
 abbrev pub answer : ℕ → List ℕ → Answer
 answer status text = record { status = status; text = text }
 
--- 0 where the file passes, 1 where it fails
-abbrev pub verdict_status : Verdict → ℕ
-verdict_status verdicts.Pass = 0
-verdict_status (verdicts.Fail f) = 1
-
 abbrev pub usage_answer : Answer
 usage_answer = answer 2 (codes "USAGE\n")
 
 abbrev pub image_fault_answer : Answer
 image_fault_answer = answer 5 (codes "READ FAULT image\n")
 
-abbrev pub probes_fault_answer : Answer
-probes_fault_answer = answer 5 read_fault_line
-
 abbrev pub memory_answer : Answer
 memory_answer = answer 7 memory_line
 
-abbrev pub unbuilt_answer : Answer
-unbuilt_answer = answer 9 (codes "UNBUILT\n")
+-- ---- the check of a file
+
+-- 0 where the file passes, 1 where it fails
+abbrev pub verdict_status : Verdict → ℕ
+verdict_status verdicts.Pass = 0
+verdict_status (verdicts.Fail f) = 1
+
+-- an image has more bytes than there may be
+abbrev pub IsTooLong : List ℕ → Type 0
+IsTooLong image = 16777216 < length image
+
+abbrev pub too_long_answer : Answer
+too_long_answer = answer 3 (codes "IMAGE TOO LONG\n")
+
+-- why the records of a file are not judged, where they are not: the first of a fault of its form, of a limit, and of a
+-- record that is not judged so far
+abbrev pub refusal_of : List ℕ → Option Refusal
+refusal_of probes = refusal_in (answers_of probes)
+
+abbrev pub refusal_status : Refusal → ℕ
+refusal_status (Malformed offset) = 4
+refusal_status (Limit what number) = 8
+refusal_status ReadFault = 5
+refusal_status (Unbuilt number) = 9
+refusal_status OutOfMemory = 7
+
+-- the line of a refusal; where `dump` has one too, it is the same
+abbrev pub refusal_line : Refusal → List ℕ
+refusal_line (Malformed offset) = last_line (next.Malformed offset)
+refusal_line (Limit what number) = last_line (next.Limit what number)
+refusal_line ReadFault = read_fault_line
+refusal_line (Unbuilt number) = codes "UNBUILT record=" ++ decimal number ++ codes "\n"
+refusal_line OutOfMemory = memory_line
+
+abbrev pub refusal_answer : Refusal → Answer
+refusal_answer r = answer (refusal_status r) (refusal_line r)
+
+-- The report of what checking a file's records comes to, and the status of its verdict: the file has a header, these
+-- records and their end, and nothing else.
+pub record IsReport (image probes : List ℕ) (sources : Bool) (a : Answer) : Type 0 where
+  pub harts : ℕ
+  pub wide : Bool
+  pub records : List Record
+  pub file : answers_of probes ≡ first_answers harts wide records ++ next.End (length records) ∷ []
+  pub checked : Checked
+  pub is_checked : IsChecked image wide harts records checked
+  pub reported : a ≡ answer (verdict_status checked.verdict) (report_text checked sources)
+
+-- ---- the other tasks
 
 -- the lines of a file's records, and a line for how the file ends
 abbrev pub dump_answer : List ℕ → Answer
@@ -62,6 +105,10 @@ convert_answer to probes = answer (stream_status (answers_of probes)) (converted
 abbrev pub AsksFor : Task → Option Asked → Type 0
 AsksFor task asked = IsSomeAnd asked (λ q. q.task ≡ task)
 
+-- a check, with the lines of sources or without
+abbrev pub AsksToCheck : Bool → Option Asked → Type 0
+AsksToCheck sources asked = IsSomeAnd asked (λ q. (q.task ≡ Pass) × (q.sources ≡ sources))
+
 abbrev pub AsksToConvert : ℕ → Option Asked → Type 0
 AsksToConvert to asked = IsSomeAnd asked (λ q. (q.task ≡ Convert) × (q.to ≡ to))
 
@@ -72,13 +119,12 @@ AsksForFile asked = AsksFor Dump asked ⊎ AsksFor Convert asked
 -- ---- the answer
 
 -- The program's answer to what its words ask for, the bytes of an image and those of a probe file,
--- where nothing fails and memory is ample: one sentence for each cause. No built record has a letter
--- yet.
+-- where nothing fails and memory is ample: one sentence for each cause.
 pub record IsAnswer (asked : Option Asked) (image probes : List ℕ) (a : Answer) : Type 0 where
   pub usage : asked ≡ None → a ≡ usage_answer
-  pub unbuilt : AsksFor Pass asked → ((records : List Record) → IsBuiltInput image probes records → ⊥) → a ≡ unbuilt_answer
-  pub report : AsksFor Pass asked → (records : List Record) (verdict : Verdict) → IsBuiltInput image probes records
-      → IsVerdict image 1 records verdict → a ≡ answer (verdict_status verdict) (report_text 1 records verdict [])
+  pub too_long : AsksFor Pass asked → IsTooLong image → a ≡ too_long_answer
+  pub refused : (r : Refusal) → AsksFor Pass asked → length image ≤ 16777216 → refusal_of probes ≡ Some r → a ≡ refusal_answer r
+  pub report : (sources : Bool) → AsksToCheck sources asked → length image ≤ 16777216 → refusal_of probes ≡ None → IsReport image probes sources a
   pub dump : AsksFor Dump asked → a ≡ dump_answer probes
   pub convert : (to : ℕ) → AsksToConvert to asked → a ≡ convert_answer to probes
 
@@ -98,11 +144,32 @@ WhereTold (Some asked) image probes P = WhereRead asked.task image probes P
 
 -- a fault of a file's form comes before its end and before any limit
 abbrev pub EndsMalformed : List ℕ → Type 0
-EndsMalformed probes = (offset : ℕ) × (end_of (answers_of probes) ≡ Some (Malformed offset))
+EndsMalformed probes = (offset : ℕ) × (end_of (answers_of probes) ≡ Some (next.Malformed offset))
 
 -- a limit comes before its end and before any fault of its form
 abbrev pub EndsAtLimit : List ℕ → Type 0
-EndsAtLimit probes = (what : What) × (number : ℕ) × (end_of (answers_of probes) ≡ Some (Limit what number))
+EndsAtLimit probes = (what : What) × (number : ℕ) × (end_of (answers_of probes) ≡ Some (next.Limit what number))
+
+-- a fault of a file's form is why its records are not judged
+abbrev pub IsRefusedMalformed : List ℕ → Type 0
+IsRefusedMalformed probes = (offset : ℕ) × (refusal_of probes ≡ Some (Malformed offset))
+
+-- a limit is why
+abbrev pub IsRefusedAtLimit : List ℕ → Type 0
+IsRefusedAtLimit probes = (what : What) × (number : ℕ) × (refusal_of probes ≡ Some (Limit what number))
+
+-- a record that is not judged so far is why
+abbrev pub IsRefusedUnbuilt : List ℕ → Type 0
+IsRefusedUnbuilt probes = (number : ℕ) × (refusal_of probes ≡ Some (Unbuilt number))
+
+-- What words ask for meets a fault of a file's form: `dump` and `convert` behind any record, `pass` only before the first
+-- record that is not judged so far.
+abbrev pub MeetsMalformed : Option Asked → List ℕ → Type 0
+MeetsMalformed asked probes = (AsksForFile asked × EndsMalformed probes) ⊎ (AsksFor Pass asked × IsRefusedMalformed probes)
+
+-- the same of a limit
+abbrev pub MeetsLimit : Option Asked → List ℕ → Type 0
+MeetsLimit asked probes = (AsksForFile asked × EndsAtLimit probes) ⊎ (AsksFor Pass asked × IsRefusedAtLimit probes)
 
 -- ---- what may come otherwise
 

@@ -1,11 +1,3 @@
-pub mod Addi
 pub mod Answer
-pub mod Built
-pub mod Judgement
-pub mod ReferenceRun
-pub mod Report
-pub mod Tallies
-pub mod Verdict
-pub mod Pieces
 pub mod Replies
 pub mod Running

@@ -1,13 +1,13 @@
 -- What a run comes to, of what its words ask for. No public clause cites these words.
-use Rattle.std.specs.Prelude.{ℕ, ◌≡◌, ◌≢◌, ◌⊎◌, List, Option, None, IfSome}
-use Rattle.dt_record.specs.declared.records.Record.{Record}
+use Rattle.std.specs.Prelude.{ℕ, ◌≡◌, ◌≢◌, ◌⊎◌, List, Option, None, Some, IfSome, IsSome, IsSomeAnd}
 use Rattle.dt_source.specs.Faults.{Rose}
 use Rattle.dt_source.specs.Known.{Appends}
 use Rattle.dt_dump.specs.Dump.{AppendsPart, memory_line, read_fault_line}
+use Rattle.dt_verdict.specs.declared.answers.Refusal.{Refusal}
+use Rattle.dt_verdict.specs.declared.answers.Refusal.TheVariants.{Unbuilt}
 use Rattle.dt_words.specs.declared.commands.Task.TheVariants.{Pass}
 use Rattle.dt_words.specs.Table.{Asked}
-use Rattle.dt_top.specs.Answer.{Answer, answer, usage_answer, unbuilt_answer, image_fault_answer, AsksFor, AsksForFile, IsAnswer, WhereTold, EndsMalformed, EndsAtLimit, StopsWith, MayWrite}
-use Rattle.dt_top.specs.Built.{IsBuiltInput}
+use Rattle.dt_top.specs.Answer.{Answer, answer, usage_answer, too_long_answer, image_fault_answer, refusal_of, refusal_status, refusal_line, AsksFor, IsAnswer, IsTooLong, WhereTold, MeetsMalformed, MeetsLimit, StopsWith, MayWrite}
 
 -- what was written of an answer, and the exit status; 6 where a write failed
 pub record IsPut (a : Answer) (out_old out_new : ℕ) (before after : Option (List ℕ)) (status : ℕ) : Type 0 where
@@ -20,11 +20,13 @@ pub record Ran (asked : Option Asked) (image probes : Option (List ℕ)) (image_
   pub whole : status ≢ 5 → status ≢ 6 → status ≢ 7 → WhereTold asked image probes (λ i b. (text : List ℕ) × Appends before text after × IsAnswer asked i b (answer status text))
   pub usage : status ≡ 2 → (asked ≡ None) × Appends before usage_answer.text after
   pub usage_comes : asked ≡ None → status ≢ 6 → status ≢ 7 → status ≡ 2
-  pub malformed : status ≡ 4 → AsksForFile asked × IfSome probes EndsMalformed
-  pub limit : status ≡ 8 → AsksForFile asked × IfSome probes EndsAtLimit
+  pub too_long : status ≡ 3 → AsksFor Pass asked × IfSome image IsTooLong × Appends before too_long_answer.text after
+  pub malformed : status ≡ 4 → IsSome asked × IfSome probes (MeetsMalformed asked)
+  pub limit : status ≡ 8 → IsSome asked × IfSome probes (MeetsLimit asked)
   pub unbuilt : status ≡ 9 → AsksFor Pass asked
-      × IfSome image (λ i. IfSome probes (λ b. (records : List Record) → IsBuiltInput i b records → ⊥))
-      × Appends before unbuilt_answer.text after
+      × (number : ℕ) × IfSome probes (λ b. refusal_of b ≡ Some (Unbuilt number)) × Appends before (refusal_line (Unbuilt number)) after
+  pub refused_comes : (r : Refusal) → AsksFor Pass asked → IsSomeAnd probes (λ b. refusal_of b ≡ Some r)
+      → status ≢ 3 → status ≢ 5 → status ≢ 6 → status ≢ 7 → status ≡ refusal_status r
   pub read_fault : status ≡ 5
       → (Rose image_old image_new × AsksFor Pass asked × Appends before image_fault_answer.text after)
       ⊎ (Rose probes_old probes_new × (text : List ℕ) × StopsWith read_fault_line asked probes text × Appends before text after)

@@ -1,28 +1,71 @@
-ghost use Rattle.std.specs.Prelude.{◌≡◌, ◌≢◌, ◌≤◌, IfSome};
-ghost use Rattle.dt_source.specs.Faults.{Rose};
-ghost use Rattle.dt_top.specs.Replies.{answer_by, IsCheckReply};
+//! What the program comes to, before it writes anything.
+ghost use Rattle.std.specs.Prelude.{◌≡◌, ◌≤◌, IfOk, Some};
+ghost use Rattle.std.specs.String.{string_bytes};
+ghost use Rattle.dt_words.specs.declared.commands.Task.TheVariants.{Pass};
+ghost use Rattle.dt_words.specs.Table.{Asked};
+ghost use Rattle.dt_top.specs.Answer.{refusal_line, refusal_status, verdict_status};
+ghost use Rattle.dt_top.specs.Replies.{CameOf, IsPassReply, IsRefusalReply, IsReportReply, answer_by};
 
-use crate::checks::check;
-use crate::reader::{Stop, read_file};
-use crate::report::report;
-use crate::verdicts::Verdict;
-use dt_source::{ReadRefusal, Source, read_up_to};
-use std::alloc::Global;
+use dt_image::{Image, ImageRefusal, load};
+use dt_pass::pass;
+use dt_probe_file::{FileProbes, Room, one_list};
+use dt_record::What;
+use dt_report::{Text, report};
+use dt_source::Source;
+use dt_verdict::{Checked, Refusal, Verdict};
+use std::alloc::{AllocError, Global};
 
-/// How many bytes an image of the built form may have.
-const IMAGE_LIMIT: usize = 4096;
-
-/// What the program comes to, before it writes anything.
+/// What the program comes to.
 #[derive(Debug, Drop)]
 pub enum Reply {
     /// The words are not in the table of commands.
     Usage,
+    /// The image has more bytes than there may be.
+    TooLong,
     ReadFaultImage,
-    ReadFaultProbes,
-    /// The input is not of the built form.
-    Unbuilt,
-    Report { verdict: Verdict, text: String },
+    /// The records of the probe file are not judged.
+    Refused { refusal: Refusal, line: String },
+    Report { verdict: Verdict, text: Text },
     OutOfMemory,
+}
+
+/// The exit status of a verdict.
+fn verdict_status(verdict: &Verdict) -> u8
+    ensures { result ≡ verdict_status verdict.now }
+{
+    match verdict {
+        Verdict::Pass => 0,
+        Verdict::Fail(_) => 1,
+    }
+}
+
+/// The exit status of a refusal.
+fn refusal_status(refusal: &Refusal) -> u8
+    ensures { result ≡ refusal_status refusal.now }
+{
+    match refusal {
+        Refusal::Malformed { .. } => 4,
+        Refusal::ReadFault => 5,
+        Refusal::OutOfMemory => 7,
+        Refusal::Limit { .. } => 8,
+        Refusal::Unbuilt { .. } => 9,
+    }
+}
+
+/// The line of a refusal.
+fn refusal_line(alloc: Global, refusal: &Refusal) -> Result<String, AllocError>
+    ensures { IfOk result (λ line. string_bytes line ≡ refusal_line refusal.now) }
+{
+    match refusal {
+        Refusal::Malformed { offset } => format!(in alloc; "MALFORMED offset={offset}\n"),
+        Refusal::Limit { what, number } => match what {
+            What::Records => format!(in alloc; "LIMIT records={number}\n"),
+            What::Writes => format!(in alloc; "LIMIT writes={number}\n"),
+        },
+        Refusal::ReadFault => String::from_str(alloc, "READ FAULT probes\n"),
+        Refusal::Unbuilt { number } => format!(in alloc; "UNBUILT record={number}\n"),
+        Refusal::OutOfMemory => String::from_str(alloc, "OUT OF MEMORY\n"),
+    }
 }
 
 impl Reply {
@@ -31,59 +74,89 @@ impl Reply {
         ensures { result ≡ (answer_by self.now).status }
     {
         match self {
-            Reply::Report { verdict, .. } => match verdict {
-                Verdict::Pass => 0,
-                Verdict::Fail(_) => 1,
-            },
+            Reply::Report { verdict, .. } => verdict_status(verdict),
             Reply::Usage => 2,
-            Reply::ReadFaultImage | Reply::ReadFaultProbes => 5,
+            Reply::TooLong => 3,
+            Reply::ReadFaultImage => 5,
             Reply::OutOfMemory => 7,
-            Reply::Unbuilt => 9,
+            Reply::Refused { refusal, .. } => refusal_status(refusal),
         }
     }
 
     /// What is written.
-    pub fn text(&self) -> &str
+    pub fn text(&self) -> &[u8]
         ensures { result.now ≡ (answer_by self.now).text }
     {
         match self {
-            Reply::Usage => "USAGE\n",
-            Reply::ReadFaultImage => "READ FAULT image\n",
-            Reply::ReadFaultProbes => "READ FAULT probes\n",
-            Reply::Unbuilt => "UNBUILT\n",
-            Reply::Report { text, .. } => text.as_str(),
-            Reply::OutOfMemory => "OUT OF MEMORY\n",
+            Reply::Usage => "USAGE\n".as_bytes(),
+            Reply::TooLong => "IMAGE TOO LONG\n".as_bytes(),
+            Reply::ReadFaultImage => "READ FAULT image\n".as_bytes(),
+            Reply::Refused { line, .. } => line.as_str().as_bytes(),
+            Reply::Report { text, .. } => text.bytes(),
+            Reply::OutOfMemory => "OUT OF MEMORY\n".as_bytes(),
         }
     }
 }
 
-/// The reply to an image and a probe file.
-pub fn check_reply<I: Source, P: Source>(alloc: Global, image: &mut I, probes: &mut P) -> Reply
-    ensures told { IfSome (I.left image.old) (λ i. IfSome (P.left probes.old) (λ b. IsCheckReply i b result)) }
-    ensures no_usage { result ≢ Reply.Usage }
-    ensures image_fault { result ≡ Reply.ReadFaultImage → Rose (I.faults image.old) (I.faults image.new) }
-    ensures probes_fault { result ≡ Reply.ReadFaultProbes → Rose (P.faults probes.old) (P.faults probes.new) }
-    ensures image_never_falls { I.faults image.old ≤ I.faults image.new }
-    ensures probes_never_falls { P.faults probes.old ≤ P.faults probes.new }
+/// The reply to a check that came to its end.
+fn report_reply(alloc: Global, checked: &Checked, sources: bool) -> Reply
+    ensures { IsReportReply checked.now sources result }
 {
-    let bytes = match read_up_to(alloc, image, IMAGE_LIMIT) {
-        Ok(bytes) => bytes,
-        Err(ReadRefusal::TooLong) => return Reply::Unbuilt,
-        Err(ReadRefusal::ReadFault) => return Reply::ReadFaultImage,
-        Err(ReadRefusal::OutOfMemory) => return Reply::OutOfMemory,
-    };
-    let records = match read_file(alloc, probes) {
-        Ok(records) => records,
-        Err(Stop::Unbuilt) => return Reply::Unbuilt,
-        Err(Stop::ReadFault) => return Reply::ReadFaultProbes,
-        Err(Stop::OutOfMemory) => return Reply::OutOfMemory,
-    };
-    let checked = check(&bytes, &records);
-    match report(alloc, &checked.verdict, &checked.counts) {
+    match report(alloc, checked, sources) {
         Ok(text) => Reply::Report {
             verdict: checked.verdict,
             text,
         },
         Err(_) => Reply::OutOfMemory,
+    }
+}
+
+/// The reply to a check that was refused.
+fn refusal_reply(alloc: Global, refusal: Refusal) -> Reply
+    ensures { IsRefusalReply refusal result }
+{
+    match refusal_line(alloc, &refusal) {
+        Ok(line) => Reply::Refused { refusal, line },
+        Err(_) => Reply::OutOfMemory,
+    }
+}
+
+/// The reply to an image and a probe file.
+fn pass_reply<P: Source>(alloc: Global, sources: bool, image: &Image, probes: &mut P) -> Reply
+    ensures said { IsPassReply image.now sources (P.left probes.old) (P.faults probes.old) (P.faults probes.new) result }
+    ensures never_falls { P.faults probes.old ≤ P.faults probes.new }
+{
+    one_list();
+    let Ok(room) = Room::new(alloc) else {
+        return Reply::OutOfMemory;
+    };
+    let mut stream = FileProbes::within(room, probes);
+    let answer = pass(alloc, image, &mut stream);
+    stream.into_source();
+    match answer {
+        Ok(checked) => report_reply(alloc, &checked, sources),
+        Err(refusal) => refusal_reply(alloc, refusal),
+    }
+}
+
+/// The reply to what the sources of an image and a probe file give. Where the image is refused, the
+/// probe file is not read.
+pub fn check_reply<I: Source, P: Source>(
+    alloc: Global,
+    sources: bool,
+    image: &mut I,
+    probes: &mut P,
+) -> Reply
+    ensures came { (asked : Asked) → asked.task ≡ Pass → asked.sources ≡ sources
+        → CameOf (Some asked) (I.left image.old) (P.left probes.old)
+        (I.faults image.old) (I.faults image.new) (P.faults probes.old) (P.faults probes.new) (answer_by result) }
+    ensures image_never_falls { I.faults image.old ≤ I.faults image.new }
+    ensures probes_never_falls { P.faults probes.old ≤ P.faults probes.new }
+{
+    match load(alloc, image) {
+        Ok(image) => pass_reply(alloc, sources, &image, probes),
+        Err(ImageRefusal::TooLong) => Reply::TooLong,
+        Err(ImageRefusal::ReadFault) => Reply::ReadFaultImage,
+        Err(ImageRefusal::OutOfMemory) => Reply::OutOfMemory,
     }
 }

@@ -1,6 +1,5 @@
 //! The runs of the tasks.
 ghost use Rattle.std.specs.Prelude.{◌≡◌, ◌≤◌, ℕ, List, Option, Some};
-ghost use Rattle.dt_source.specs.Faults.{Rose};
 ghost use Rattle.dt_convert.specs.Convert.{version_of};
 ghost use Rattle.dt_words.specs.declared.commands.Task.TheVariants.{Pass, Dump, Convert};
 ghost use Rattle.dt_words.specs.Table.{Asked, asked_by};
@@ -22,7 +21,7 @@ pub fn put_reply<O: Sink>(reply: &Reply, out: &mut O) -> u8
     ensures put { IsPut (answer_by reply.now) (O.faults out.old) (O.faults out.new) (O.written out.old) (O.written out.new) result }
     ensures never_falls { O.faults out.old ≤ O.faults out.new }
 {
-    match write_all(out, reply.text().as_bytes()) {
+    match write_all(out, reply.text()) {
         Ok(()) => reply.status(),
         Err(Failed) => WRITE_FAULT,
     }
@@ -31,11 +30,12 @@ pub fn put_reply<O: Sink>(reply: &Reply, out: &mut O) -> u8
 /// Judges a probe file against the reference.
 fn run_pass<I: Source, P: Source, O: Sink>(
     alloc: Global,
+    sources: bool,
     image: &mut I,
     probes: &mut P,
     out: &mut O,
 ) -> u8
-    ensures ran { (asked : Asked) → asked.task ≡ Pass
+    ensures ran { (asked : Asked) → asked.task ≡ Pass → asked.sources ≡ sources
         → Ran (Some asked) (I.left image.old) (P.left probes.old)
         (I.faults image.old) (I.faults image.new) (P.faults probes.old) (P.faults probes.new) (O.faults out.old) (O.faults out.new)
         (O.written out.old) (O.written out.new) result }
@@ -43,7 +43,7 @@ fn run_pass<I: Source, P: Source, O: Sink>(
     ensures probes_never_falls { P.faults probes.old ≤ P.faults probes.new }
     ensures out_never_falls { O.faults out.old ≤ O.faults out.new }
 {
-    let reply = check_reply(alloc, image, probes);
+    let reply = check_reply(alloc, sources, image, probes);
     put_reply(&reply, out)
 }
 
@@ -110,7 +110,7 @@ pub fn run_command<I: Source, P: Source, O: Sink>(
     ensures out_never_falls { O.faults out.old ≤ O.faults out.new }
 {
     match command.task {
-        Task::Pass => run_pass(alloc, image, probes, out),
+        Task::Pass => run_pass(alloc, command.sources, image, probes, out),
         Task::Dump => run_dump(alloc, probes, out),
         Task::Convert => run_convert(alloc, command.to, probes, out),
     }

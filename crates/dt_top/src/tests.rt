@@ -1,12 +1,14 @@
-//! Worked files, printed texts, calls that fail, and input that is not built.
+//! A file of one hart, calls that fail, and words that are not in the table.
 use crate::run_plain;
+use dt_record::{Body, Record, Retire, lawful};
+use dt_record_bytes::encode;
 use dt_source::{MemSink, MemSource};
 use std::alloc::{AllocError, Global};
 use std::process::Abort;
 use std::test::Fail;
 
 /// The words of a check.
-const PASS: &[&str] = &["pass", "IMAGE", "PROBES"];
+pub(crate) const PASS: &[&str] = &["pass", "IMAGE", "PROBES"];
 
 /// addi x1,x0,5 at the start of RAM.
 const IMAGE: &[u8] = &[0x93, 0x00, 0x50, 0x00];
@@ -57,117 +59,102 @@ pub(crate) fn run(
     Ok((status, Vec::from_slice(alloc, out.bytes())?))
 }
 
-/// A Commit of hart 0: its cycle, pc, bits and value.
-type Commit = (u64, u64, u32, u64);
+/// A record, by its stamp and hart.
+pub(crate) fn record(stamp: u64, hart: u8, body: Body) -> Record {
+    Record { stamp, hart, body }
+}
 
-/// The probe file of one hart with these Commits.
-fn file_of(alloc: Global, commits: &[Commit]) -> Result<Vec<u8>, AllocError> {
-    let mut file = Vec::from_slice(alloc, b"SMPDIFF\0\x01\0\x01\0\0\0\0\0")?;
-    for (stamp, pc, bits, value) in commits {
-        file.extend_from_slice(&[1, 0])?;
-        file.extend_from_slice(&stamp.to_le_bytes())?;
-        file.extend_from_slice(&pc.to_le_bytes())?;
-        file.extend_from_slice(&bits.to_le_bytes())?;
-        file.extend_from_slice(&value.to_le_bytes())?;
+/// What an instruction that retires at a place of the image says.
+pub(crate) fn retire(place: u32, bits: u32, value: u64) -> Retire {
+    let pc = START + u64::from(place);
+    Retire { pc, bits, value }
+}
+
+pub(crate) fn commit(stamp: u64, hart: u8, place: u32, bits: u32, value: u64) -> Record {
+    let retire = retire(place, bits, value);
+    record(stamp, hart, Body::Commit { retire })
+}
+
+/// The probe file with these records.
+pub(crate) fn file_of(alloc: Global, harts: u8, records: &[Record]) -> Result<Vec<u8>, AllocError> {
+    let mut file = Vec::from_slice(alloc, b"SMPDIFF\0\x01\0")?;
+    file.extend_from_slice(&[harts, 0, 0, 0, 0, 0])?;
+    for event in records {
+        if lawful(event) {
+            encode(event, &mut file)?;
+        }
     }
     file.extend_from_slice(&[255])?;
-    file.extend_from_slice(&(commits.len() as u64).to_le_bytes())?;
+    file.extend_from_slice(&(records.len() as u64).to_le_bytes())?;
     Ok(file)
 }
 
-/// The report of a file of one hart: its first line, and how many Commits it counts.
-fn report_of(alloc: Global, first: &str, count: u32) -> Result<String, AllocError> {
-    format!(in alloc;
-        "{first}\nharts=1 records={count} writes=0\n\
-        hart 0 retired={count} traps=0 loads=0 stores=0 atomics=0 drains=0\n\
-        rules L=0 S=0 P=0 I=0 D=0 C=0 Z=0\n"
-    )
+/// The image that begins with these instructions.
+pub(crate) fn image_of(alloc: Global, words: &[u32]) -> Result<Vec<u8>, AllocError> {
+    let mut image = Vec::new(alloc);
+    for word in words {
+        image.extend_from_slice(&word.to_le_bytes())?;
+    }
+    Ok(image)
 }
 
-/// Checks what a file answers, in pieces of 1, 20 and 64 bytes.
-fn expect(
+pub(crate) const START: u64 = 0x8000_0000;
+
+/// addi x1,x0,5
+pub(crate) const ADDI: u32 = 0x0050_0093;
+
+/// Sees that a check answers so, in pieces of 1, 20 and 64 bytes.
+pub(crate) fn expect_check(
     rt: &(impl Abort + AllocGlobal),
+    words: &[&str],
     image: &[u8],
-    commits: &[Commit],
-    first: &str,
-    count: u32,
+    file: &[u8],
+    status: u8,
+    text: &str,
 ) -> Result<(), Fail> {
-    let file = file_of(rt.alloc(), commits)?;
-    let want = report_of(rt.alloc(), first, count)?;
     for piece in [1, 20, 64] {
         let outside = Outside { piece, ..CALM };
-        let (status, text) = run(rt.alloc(), PASS, image, &file, outside)?;
-        assert_eq!(rt;
-            status,
-            u8::from(first != "PASS"),
-            "{first}, in pieces of {piece}"
-        );
-        assert_eq!(rt;
-            text.as_slice(),
-            want.as_bytes(),
-            "{first}, in pieces of {piece}"
-        );
+        let (found, written) = run(rt.alloc(), words, image, file, outside)?;
+        assert_eq!(rt; written.as_slice(), text.as_bytes(), "in pieces of {piece}");
+        assert_eq!(rt; found, status, "in pieces of {piece}");
     }
     Ok(())
 }
 
-const START: u64 = 0x8000_0000;
-
-/// addi x1,x0,5 and addi x2,x1,-6.
-const TWO: &[u8] = &[0x93, 0x00, 0x50, 0x00, 0x13, 0x81, 0xa0, 0xff];
+const NOTHING_COUNTED: &str = "harts=1 records=0 writes=0\n\
+    hart 0 retired=0 traps=0 loads=0 stores=0 atomics=0 drains=0\n\
+    rules L=0 S=0 P=0 I=0 D=0 C=0 Z=0\n";
 
 #[test]
-fn files_have_their_reports_in_any_pieces(rt: HostRuntime) -> Result<(), Fail> {
-    let one = (1, START, 0x0050_0093, 5);
-    let file = file_of(rt.alloc(), &[one])?;
+fn a_file_has_its_report(rt: HostRuntime) -> Result<(), Fail> {
+    let file = file_of(rt.alloc(), 1, &[commit(1, 0, 0, ADDI, 5)])?;
     assert_eq!(rt; file, hex::decode(rt.alloc(), FILE)?);
-    expect(&rt, IMAGE, &[one], "PASS", 1)?;
-    expect(
-        &rt,
-        IMAGE,
-        &[(1, START, 0x0050_0093, 6)],
-        "FAIL stamp=1 hart=0 seq=0 reason=8 Value expected=0000000000000005 found=0000000000000006",
-        0,
-    )?;
-    expect(&rt, &[], &[], "PASS", 0)?;
-    let two = (1, START + 4, 0xffa0_8113, 0xffff_ffff_ffff_ffff);
-    expect(&rt, TWO, &[one, two], "PASS", 2)?;
-    expect(
-        &rt,
-        TWO,
-        &[one, (9, START, 0x0050_0093, 5), (9, START, 0x0050_0093, 5)],
-        "FAIL stamp=9 hart=0 seq=1 reason=1 Pc expected=0000000080000004 found=0000000080000000",
-        1,
-    )?;
-    expect(
-        &rt,
-        &[],
-        &[one],
-        "FAIL stamp=1 hart=0 seq=0 reason=2 Fetch expected=0000000080000000 found=0000000000000093",
-        0,
-    )?;
-    expect(
-        &rt,
-        &[0x93, 0x00, 0x51, 0x00],
-        &[one],
-        "FAIL stamp=1 hart=0 seq=0 reason=2 Fetch expected=0000000080000002 found=0000000000000050",
-        0,
-    )
+    let passed = "PASS\nharts=1 records=1 writes=0\n\
+        hart 0 retired=1 traps=0 loads=0 stores=0 atomics=0 drains=0\n\
+        rules L=0 S=0 P=0 I=0 D=0 C=0 Z=0\n";
+    expect_check(&rt, PASS, IMAGE, &file, 0, passed)?;
+    let file = file_of(rt.alloc(), 1, &[commit(1, 0, 0, ADDI, 6)])?;
+    let failed = format!(in rt.alloc(); "FAIL stamp=1 hart=0 seq=0 reason=8 Value \
+        expected=0000000000000005 found=0000000000000006\n{NOTHING_COUNTED}")?;
+    expect_check(&rt, PASS, IMAGE, &file, 1, &failed)?;
+    let empty = format!(in rt.alloc(); "PASS\n{NOTHING_COUNTED}")?;
+    expect_check(&rt, PASS, &[], &file_of(rt.alloc(), 1, &[])?, 0, &empty)
 }
 
 #[test]
-fn nothing_is_written_to_x0(rt: HostRuntime) -> Result<(), Fail> {
-    // addi x0,x0,5 and addi x1,x0,0
-    let image = [0x13, 0x00, 0x50, 0x00, 0x93, 0x00, 0x00, 0x00];
-    let commits = [(1, START, 0x0050_0013, 0), (2, START + 4, 0x0000_0093, 0)];
-    expect(&rt, &image, &commits, "PASS", 2)?;
-    expect(
-        &rt,
-        &image,
-        &[(1, START, 0x0050_0013, 5)],
-        "FAIL stamp=1 hart=0 seq=0 reason=8 Value expected=0000000000000000 found=0000000000000005",
-        0,
-    )
+fn a_malformed_file_is_not_judged(rt: HostRuntime) -> Result<(), Fail> {
+    let file = hex::decode(rt.alloc(), FILE)?;
+    let cut = &file[..file.len().min(54)];
+    expect_check(&rt, PASS, IMAGE, cut, 4, "MALFORMED offset=46\n")?;
+    let mut longer = Vec::from_slice(rt.alloc(), &file)?;
+    longer.push(0)?;
+    expect_check(&rt, PASS, IMAGE, &longer, 4, "MALFORMED offset=55\n")?;
+    let mut counted = Vec::from_slice(rt.alloc(), &file)?;
+    if let Some(place) = counted.get_mut(47) {
+        *place = 2;
+    }
+    expect_check(&rt, PASS, IMAGE, &counted, 4, "MALFORMED offset=46\n")?;
+    expect_check(&rt, PASS, IMAGE, &[], 4, "MALFORMED offset=0\n")
 }
 
 #[test]
@@ -225,7 +212,7 @@ fn a_fault_shows_in_status_and_text(rt: HostRuntime) -> Result<(), Fail> {
 #[test]
 fn other_words_are_usage(rt: HostRuntime) -> Result<(), Fail> {
     let file = hex::decode(rt.alloc(), FILE)?;
-    let table: [&[&str]; 9] = [
+    let table: [&[&str]; 10] = [
         &[],
         &["pass"],
         &["pass", "IMAGE"],
@@ -235,77 +222,12 @@ fn other_words_are_usage(rt: HostRuntime) -> Result<(), Fail> {
         &["pass", "-x", "PROBES"],
         &["pass", "IMAGE", "--sources"],
         &["--sources", "IMAGE", "PROBES"],
+        &["dump", "--sources", "PROBES"],
     ];
     for (at, words) in table.iter().enumerate() {
         let (status, text) = run(rt.alloc(), words, IMAGE, &file, CALM)?;
         assert_eq!(rt; status, 2, "words {at}");
         assert_eq!(rt; text.as_slice(), b"USAGE\n".as_slice(), "words {at}");
     }
-    Ok(())
-}
-
-/// Whether a file with this image is answered as unbuilt, and nothing else.
-fn is_unbuilt(alloc: Global, image: &[u8], file: &[u8]) -> Result<bool, AllocError> {
-    let (status, text) = run(alloc, PASS, image, file, CALM)?;
-    Ok(status == 9 && text.as_slice() == b"UNBUILT\n".as_slice())
-}
-
-#[test]
-fn other_input_is_unbuilt(rt: HostRuntime) -> Result<(), Fail> {
-    let file = hex::decode(rt.alloc(), FILE)?;
-    for cut in 0..file.len() {
-        assert!(rt;
-            is_unbuilt(rt.alloc(), IMAGE, &file[..cut])?,
-            "cut to {cut} bytes"
-        );
-    }
-    // Each field in turn: version, harts, flag, zeros, tag, hart, opcode, funct3, End, count.
-    for (at, byte) in [
-        (8, 2),
-        (10, 2),
-        (11, 1),
-        (15, 1),
-        (16, 10),
-        (17, 1),
-        (34, 0x33),
-        (35, 0x10),
-        (46, 254),
-        (47, 2),
-    ] {
-        let mut changed = Vec::from_slice(rt.alloc(), &file)?;
-        if let Some(place) = changed.get_mut(at) {
-            *place = byte;
-        }
-        assert!(rt; is_unbuilt(rt.alloc(), IMAGE, &changed)?, "byte {at}");
-    }
-    let mut longer = Vec::from_slice(rt.alloc(), &file)?;
-    longer.push(0)?;
-    assert!(rt; is_unbuilt(rt.alloc(), IMAGE, &longer)?, "one byte more");
-    let falling = file_of(rt.alloc(), &[(1, START, 0x13, 0), (0, START, 0x13, 0)])?;
-    assert!(rt;
-        is_unbuilt(rt.alloc(), IMAGE, &falling)?,
-        "a stamp that falls"
-    );
-    let large = vec![in rt.alloc(); 0; 4097]?;
-    assert!(rt; is_unbuilt(rt.alloc(), &large, &file)?, "a large image");
-    Ok(())
-}
-
-#[test]
-fn the_largest_file(rt: HostRuntime) -> Result<(), Fail> {
-    // addi x1,x1,1 all over the image.
-    let mut image = Vec::new(rt.alloc());
-    let mut commits = Vec::new(rt.alloc());
-    for n in 0..1024 {
-        image.extend_from_slice(&0x0010_8093_u32.to_le_bytes())?;
-        commits.push((n, START + 4 * n, 0x0010_8093, n + 1))?;
-    }
-    let file = file_of(rt.alloc(), &commits)?;
-    let (status, text) = run(rt.alloc(), PASS, &image, &file, CALM)?;
-    assert_eq!(rt; status, 0);
-    assert!(rt; text.starts_with(b"PASS\nharts=1 records=1024 writes=0\n"));
-    commits.push((1024, START + 4096, 0x0010_8093, 1025))?;
-    let file = file_of(rt.alloc(), &commits)?;
-    assert!(rt; is_unbuilt(rt.alloc(), &image, &file)?);
     Ok(())
 }

@@ -1,13 +1,12 @@
-ghost use Rattle.std.specs.Prelude.{◌≡◌, ◌≢◌, ◌≤◌, ◌⊎◌, ℕ, List, map, IfSome, IsSomeAnd, None};
+ghost use Rattle.std.specs.Prelude.{◌≡◌, ◌≢◌, ◌≤◌, ◌⊎◌, ℕ, List, map, IfSome, IsSome, IsSomeAnd, None, Some};
 ghost use Rattle.std.specs.String.{string_bytes};
 ghost use Rattle.dt_source.specs.Faults.{Rose};
 ghost use Rattle.dt_source.specs.Known.{Appends};
-ghost use Rattle.dt_record.specs.declared.records.Record.{Record};
 ghost use Rattle.dt_dump.specs.Dump.{AppendsPart, memory_line, read_fault_line};
+ghost use Rattle.dt_verdict.specs.declared.answers.Refusal.TheVariants.{Unbuilt};
 ghost use Rattle.dt_words.specs.declared.commands.Task.TheVariants.{Pass};
 ghost use Rattle.dt_words.specs.Table.{asked_of};
-ghost use Rattle.dt_top.specs.Answer.{AsksFor, AsksForFile, EndsAtLimit, EndsMalformed, IsAnswer, MayWrite, StopsWith, WhereTold, answer, image_fault_answer, unbuilt_answer, usage_answer};
-ghost use Rattle.dt_top.specs.Built.{IsBuiltInput};
+ghost use Rattle.dt_top.specs.Answer.{AsksFor, IsAnswer, IsRefusedUnbuilt, IsTooLong, MayWrite, MeetsLimit, MeetsMalformed, StopsWith, WhereTold, answer, image_fault_answer, refusal_line, refusal_of, too_long_answer, usage_answer};
 ghost use Rattle.dt_top.specs.Running.{Ran};
 
 use crate::replies::Reply;
@@ -19,8 +18,10 @@ use std::alloc::Global;
 /// Does what the words say, on one thread: writes the answer and gives the exit status.
 ///
 /// 0 the check passed, or the file was written; 1 the check failed; 2 the words are not in the table;
-/// 4 the probe file is malformed; 5 a read failed; 6 a write failed; 7 there was no memory; 8 the
-/// probe file has too many records or writes; 9 the input is not built yet.
+/// 3 the image is too long; 4 the probe file is malformed; 5 a read failed; 6 a write failed; 7 there
+/// was no memory; 8 the probe file has too many records or writes; 9 a record is not judged yet.
+/// A check that is refused has the first of these: that of the words, of the image, and of the probe
+/// file where it comes first.
 pub fn run_plain<I: Source, P: Source, O: Sink>(
     alloc: Global,
     words: &[String],
@@ -47,18 +48,23 @@ pub fn run_plain<I: Source, P: Source, O: Sink>(
         × Appends (O.written out.old) usage_answer.text (O.written out.new) }
     ensures usage_comes { asked_of (map string_bytes words.now) ≡ None
         → result ≢ 6 → result ≢ 7 → result ≡ 2 }
-    ensures malformed { result ≡ 4 → AsksForFile (asked_of (map string_bytes words.now))
-        × IfSome (P.left probes.old) EndsMalformed }
-    ensures malformed_comes { AsksForFile (asked_of (map string_bytes words.now))
-        → IsSomeAnd (P.left probes.old) EndsMalformed → result ≢ 5 → result ≢ 6 → result ≢ 7 → result ≡ 4 }
-    ensures limit { result ≡ 8 → AsksForFile (asked_of (map string_bytes words.now))
-        × IfSome (P.left probes.old) EndsAtLimit }
-    ensures limit_comes { AsksForFile (asked_of (map string_bytes words.now))
-        → IsSomeAnd (P.left probes.old) EndsAtLimit → result ≢ 5 → result ≢ 6 → result ≢ 7 → result ≡ 8 }
+    ensures too_long { result ≡ 3 → AsksFor Pass (asked_of (map string_bytes words.now))
+        × IfSome (I.left image.old) IsTooLong
+        × Appends (O.written out.old) too_long_answer.text (O.written out.new) }
+    ensures malformed { result ≡ 4 → IsSome (asked_of (map string_bytes words.now))
+        × IfSome (P.left probes.old) (MeetsMalformed (asked_of (map string_bytes words.now))) }
+    ensures malformed_comes { IsSomeAnd (P.left probes.old) (MeetsMalformed (asked_of (map string_bytes words.now)))
+        → result ≢ 3 → result ≢ 5 → result ≢ 6 → result ≢ 7 → result ≡ 4 }
+    ensures limit { result ≡ 8 → IsSome (asked_of (map string_bytes words.now))
+        × IfSome (P.left probes.old) (MeetsLimit (asked_of (map string_bytes words.now))) }
+    ensures limit_comes { IsSomeAnd (P.left probes.old) (MeetsLimit (asked_of (map string_bytes words.now)))
+        → result ≢ 3 → result ≢ 5 → result ≢ 6 → result ≢ 7 → result ≡ 8 }
     ensures unbuilt { result ≡ 9 → AsksFor Pass (asked_of (map string_bytes words.now))
-        × IfSome (I.left image.old) (λ i. IfSome (P.left probes.old) (λ b.
-        (records : List Record) → IsBuiltInput i b records → ⊥))
-        × Appends (O.written out.old) unbuilt_answer.text (O.written out.new) }
+        × (number : ℕ) × IfSome (P.left probes.old) (λ b. refusal_of b ≡ Some (Unbuilt number))
+        × Appends (O.written out.old) (refusal_line (Unbuilt number)) (O.written out.new) }
+    ensures unbuilt_comes { AsksFor Pass (asked_of (map string_bytes words.now))
+        → IsSomeAnd (P.left probes.old) IsRefusedUnbuilt
+        → result ≢ 3 → result ≢ 5 → result ≢ 6 → result ≢ 7 → result ≡ 9 }
     ensures read_fault { result ≡ 5
         → (Rose (I.faults image.old) (I.faults image.new) × AsksFor Pass (asked_of (map string_bytes words.now))
         × Appends (O.written out.old) image_fault_answer.text (O.written out.new))

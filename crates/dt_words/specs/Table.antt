@@ -1,7 +1,7 @@
 -- The words of the program, and what they ask for (this project's own). The first word names a
 -- command; the rest is what the simple command of `clap` for it takes, with the values that `clap`
 -- gives them.
-use Rattle.std.specs.Prelude.{ℕ, pos, true, Option, Some, None, if◌then◌else◌, option_map, option_and_then, List, [], ◌∷◌, codes}
+use Rattle.std.specs.Prelude.{ℕ, pos, Bool, true, false, Option, Some, None, if◌then◌else◌, option_map, option_and_then, List, [], ◌∷◌, codes}
 use Rattle.std.specs.Option.{option_map_or}
 use Rattle.std.specs.Str.{bytes_eq}
 use Rattle.std.specs.String.{string_bytes}
@@ -9,6 +9,7 @@ use Rattle.clap.specs.Walk.{Row, Rule, Text, byte_or_zero, first_of, is_empty, o
 use Rattle.clap.specs.Simple.{App, matches_of, new_app, new_rule, with_rule}
 use Rattle.clap.specs.Faults.{fault_of}
 use Rattle.clap.specs.declared.builder.value_parser.ValueParser.TheVariants.{Signed}
+use Rattle.clap.specs.declared.builder.action.ArgAction.TheVariants.{SetTrue}
 use Rattle.dt_words.specs.declared.commands.Task.{Task}
 use Rattle.dt_words.specs.declared.commands.Task.TheVariants.{Pass, Dump, Convert}
 use Rattle.dt_words.specs.declared.commands.Command.{Command}
@@ -28,9 +29,13 @@ path_rule id = record (new_rule id) { required = true }
 abbrev pub version_rule : Rule
 version_rule = record (new_rule (codes "to")) { long = Some (codes "to"); parser = Some (Signed (pos 1) (pos 2)); required = true }
 
--- the simple command of `clap` for a task: IMAGE PROBES, PROBES, or --to N PROBES
+-- `--sources`, which may be there
+abbrev pub sources_rule : Rule
+sources_rule = record (new_rule (codes "sources")) { long = Some (codes "sources"); action = Some SetTrue }
+
+-- the simple command of `clap` for a task: [--sources] IMAGE PROBES, PROBES, or --to N PROBES
 unfoldable pub app_of_task : Task → App
-app_of_task Pass = with_rule (with_rule (new_app (codes "pass")) (path_rule (codes "image"))) (path_rule (codes "probes"))
+app_of_task Pass = with_rule (with_rule (with_rule (new_app (codes "pass")) sources_rule) (path_rule (codes "image"))) (path_rule (codes "probes"))
 app_of_task Dump = with_rule (new_app (codes "dump")) (path_rule (codes "probes"))
 app_of_task Convert = with_rule (with_rule (new_app (codes "convert")) version_rule) (path_rule (codes "probes"))
 
@@ -38,11 +43,13 @@ app_of_task Convert = with_rule (with_rule (new_app (codes "convert")) version_r
 unfoldable pub values_of : Task → List Text → Option (List Row)
 values_of task words = if is_empty (fault_of (app_of_task task) words) then Some (matches_of (app_of_task task) words) else None
 
--- what words ask for: a task, the version of the file to write (0 where the task writes none), and
--- the paths that go with the task
+-- what words ask for: a task, the version of the file to write (0 where the task writes none), whether
+-- the sources of loads are to be printed (false where the task judges nothing), and the paths that go
+-- with the task
 pub record Asked : Type 0 where
   pub task : Task
   pub to : ℕ
+  pub sources : Bool
   pub image : Option Text
   pub probes : Option Text
 
@@ -51,6 +58,12 @@ abbrev pub to_of : Task → List Row → ℕ
 to_of Pass values = 0
 to_of Dump values = 0
 to_of Convert values = option_map_or byte_or_zero (one_of (codes "to") values) 0
+
+-- whether the values of a task ask for the sources of loads: `clap` gives a flag that is there the text `true`
+abbrev pub sources_of : Task → List Row → Bool
+sources_of Pass values = option_map_or (λ text. bytes_eq text (codes "true")) (first_of (codes "sources") values) false
+sources_of Dump values = false
+sources_of Convert values = false
 
 -- the path of an image that the values of a task give, and none where the task reads no image
 abbrev pub image_of : Task → List Row → Option Text
@@ -63,6 +76,7 @@ abbrev pub asked_for : Task → List Row → Asked
 asked_for task values = record {
   task = task;
   to = to_of task values;
+  sources = sources_of task values;
   image = image_of task values;
   probes = first_of (codes "probes") values;
 }
@@ -78,6 +92,7 @@ abbrev pub asked_by : Command → Asked
 asked_by command = record {
   task = command.task;
   to = command.to;
+  sources = command.sources;
   image = option_map string_bytes command.image;
   probes = option_map string_bytes command.probes;
 }

@@ -5,7 +5,8 @@ use std::alloc::AllocError;
 /// What the program is to do.
 #[derive(Clone, Copy, Debug, PartialEq, Eq)]
 pub enum Task {
-    /// Check a probe file against the reference, on one thread: `pass IMAGE PROBES`.
+    /// Check a probe file against the reference, on one thread: `pass [--sources]
+    /// IMAGE PROBES`.
     Pass,
     /// Print the records of a probe file: `dump PROBES`.
     Dump,
@@ -19,6 +20,8 @@ pub struct Command {
     pub task: Task,
     /// The version of the file that `convert` writes, 1 or 2; 0 for the other tasks.
     pub to: u8,
+    /// Whether `pass` prints where loads have their bytes from; false for the other tasks.
+    pub sources: bool,
     /// The path of the memory image, where the task reads one.
     pub image: Option<String>,
     /// The path of the probe file, where the task reads one.

@@ -18,6 +18,7 @@ fn parsed(alloc: Global, line: &str) -> Result<Command, WordsRefusal> {
 fn says(command: &Command, task: Task, to: u8, image: Option<&str>, probes: Option<&str>) -> bool {
     command.task == task
         && command.to == to
+        && !command.sources
         && command.image.as_ref().map(|path| path.as_str()) == image
         && command.probes.as_ref().map(|path| path.as_str()) == probes
 }
@@ -46,6 +47,22 @@ fn reads_each_command(rt: HostRuntime) -> Result<(), Fail> {
 }
 
 #[test]
+fn reads_a_wish_for_sources(rt: HostRuntime) -> Result<(), Fail> {
+    for (line, sources) in [
+        ("pass a b", false),
+        ("pass --sources a b", true),
+        ("pass a b --sources", true),
+        ("pass a -- --sources", false),
+    ] {
+        let Ok(command) = parsed(rt.alloc(), line) else {
+            panic!(rt; "{line}");
+        };
+        assert_eq!(rt; command.sources, sources, "{line}");
+    }
+    Ok(())
+}
+
+#[test]
 fn other_words_are_usage(rt: HostRuntime) {
     for line in [
         "",
@@ -53,7 +70,10 @@ fn other_words_are_usage(rt: HostRuntime) {
         "pass a",
         "pass a b c",
         "pass -a b",
-        "pass --sources a b",
+        "pass --sources a",
+        "pass --sources --sources a b",
+        "pass --sources=true a b",
+        "dump --sources b",
         "pass --to 1 a b",
         "pass --help",
         "pass -h",

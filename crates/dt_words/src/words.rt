@@ -1,11 +1,11 @@
 ghost use Rattle.std.specs.Prelude.{◌≡◌, false, IfErr, IfOk, Some, None, Err, codes, map, option_map};
 ghost use Rattle.std.specs.String.{string_bytes};
 ghost use Rattle.clap.specs.Words.{app_of, found_of, kind_of, rows_of, rule_of};
-ghost use Rattle.dt_words.specs.Table.{app_of_task, asked_by, asked_for, asked_of, image_of, path_rule, task_named, to_of, values_of, version_rule};
+ghost use Rattle.dt_words.specs.Table.{app_of_task, asked_by, asked_for, asked_of, image_of, path_rule, sources_of, sources_rule, task_named, to_of, values_of, version_rule};
 
 use crate::commands::{Command, Task, WordsRefusal};
 use clap::error::ErrorKind;
-use clap::{Arg, ArgMatches, value_parser};
+use clap::{Arg, ArgAction, ArgMatches, value_parser};
 use std::alloc::{AllocError, Global};
 
 /// The task that a first word names.
@@ -39,12 +39,23 @@ fn version<'a>(alloc: Global) -> Arg<'a>
         .required(true)
 }
 
+/// `--sources`, which may be there.
+fn sources<'a>(alloc: Global) -> Arg<'a>
+    ensures rule { rule_of result ≡ sources_rule }
+    ensures local { result.global ≡ false }
+{
+    Arg::new(alloc, "sources")
+        .long("sources")
+        .action(ArgAction::SetTrue)
+}
+
 /// What `clap` is to take for a task.
 fn command_for<'a>(alloc: Global, task: Task) -> Result<clap::Command<'a>, AllocError>
     ensures { IfOk result (λ command. app_of command ≡ app_of_task task) }
 {
     match task {
         Task::Pass => clap::Command::new(alloc, "pass")
+            .arg(sources(alloc))?
             .arg(path(alloc, "image"))?
             .arg(path(alloc, "probes")),
         Task::Dump => clap::Command::new(alloc, "dump").arg(path(alloc, "probes")),
@@ -103,6 +114,19 @@ fn version_to(task: Task, matches: &ArgMatches<'_>) -> u8
     }
 }
 
+/// Whether the values of a task ask for the sources of loads.
+fn wants_sources(task: Task, matches: &ArgMatches<'_>) -> bool
+    ensures { result ≡ sources_of task (rows_of (found_of matches.now)) }
+{
+    match task {
+        Task::Pass => match matches.get_str("sources") {
+            Some(text) => text == "true",
+            None => false,
+        },
+        Task::Dump | Task::Convert => false,
+    }
+}
+
 /// The path of an image that the values of a task give.
 fn image_path<'a>(task: Task, matches: &ArgMatches<'a>) -> Option<&'a str>
     ensures { option_map (λ path. path.now) result ≡ image_of task (rows_of (found_of matches.now)) }
@@ -120,12 +144,13 @@ fn command_of(alloc: Global, task: Task, matches: &ArgMatches<'_>) -> Result<Com
     Ok(Command {
         task,
         to: version_to(task, matches),
+        sources: wants_sources(task, matches),
         image: owned(alloc, image_path(task, matches))?,
         probes: owned(alloc, matches.get_str("probes"))?,
     })
 }
 
-/// Reads the words that follow the program's name: `pass IMAGE PROBES`, `dump PROBES` or
+/// Reads the words that follow the program's name: `pass [--sources] IMAGE PROBES`, `dump PROBES` or
 /// `convert --to N PROBES`. A request for help is no command.
 pub fn parse_words(alloc: Global, words: &[String]) -> Result<Command, WordsRefusal>
     ensures says { IfOk result (λ command. asked_of (map string_bytes words.now) ≡ Some (asked_by command)) }

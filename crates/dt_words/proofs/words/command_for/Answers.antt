@@ -1,16 +1,18 @@
 use Rattle.std.proofs.Common.{◌≡◌, codes}
 use Rattle.std.proofs.lemmas.Result.{IfOk-weaker}
 use Rattle.clap.specs.Simple.{app_of, new_app, with_rule}
-use Rattle.dt_words.specs.Table.{app_of_task, path_rule, version_rule}
+use Rattle.dt_words.specs.Table.{app_of_task, path_rule, sources_rule, version_rule}
 use Rattle.dt_words.proofs.Parsing.{one_more}
 use Rattle.dt_words.proofs.words.command_for.Goals as goal
 
-pub returns-in_ok-arg-in-Pass : goal.returns-in_ok-arg-in-Pass
+pub returns-in_ok-arg-in-Pass-2 : goal.returns-in_ok-arg-in-Pass-2
 unfolding app_of_task
-returns-in_ok-arg-in-Pass c =
-    let one : app_of c.in_ok-arg-in-Pass.field-0 ≡ with_rule (new_app (codes "pass")) (path_rule (codes "image"))
-    = one_more _ _ _ _ _ c.in_ok-arg-in-Pass.ensures c.path.ensures.local c.new.ensures.app c.path.ensures.rule in
-    rw c.in-Pass.is (IfOk-weaker c.arg-in-Pass.result _ _ (λ command adds. one_more _ _ _ _ _ adds c.path-in-Pass.ensures.local one c.path-in-Pass.ensures.rule) c.arg-in-Pass.ensures)
+returns-in_ok-arg-in-Pass-2 c =
+    let one : app_of c.in_ok-arg-in-Pass.field-0 ≡ with_rule (new_app (codes "pass")) sources_rule
+    = one_more _ _ _ _ _ c.in_ok-arg-in-Pass.ensures c.sources.ensures.local c.new.ensures.app c.sources.ensures.rule in
+    let two : app_of c.in_ok-arg-in-Pass-2.field-0 ≡ with_rule (with_rule (new_app (codes "pass")) sources_rule) (path_rule (codes "image"))
+    = one_more _ _ _ _ _ c.in_ok-arg-in-Pass-2.ensures c.path.ensures.local one c.path.ensures.rule in
+    rw c.in-Pass.is (IfOk-weaker c.arg-in-Pass-2.result _ _ (λ command adds. one_more _ _ _ _ _ adds c.path-in-Pass.ensures.local two c.path-in-Pass.ensures.rule) c.arg-in-Pass-2.ensures)
 
 pub returns-in-Dump : goal.returns-in-Dump
 unfolding app_of_task

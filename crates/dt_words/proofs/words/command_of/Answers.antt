@@ -13,4 +13,4 @@ returns c =
     let image : option_map string_bytes c.in_ok-owned.field-0 ≡ image_of c.args.task (rows_of found) = c.in_ok-owned.ensures ∙ c.image_path.ensures in
     let probes : option_map string_bytes c.in_ok-owned-2.field-0 ≡ first_of (codes "probes") (rows_of found)
     = c.in_ok-owned-2.ensures ∙ (c.get_str.ensures ∙ first_value-rows found (codes "probes")) in
-    λ i. record { task = c.args.task; to = c.version_to.ensures i; image = image i; probes = probes i }
+    λ i. record { task = c.args.task; to = c.version_to.ensures i; sources = c.wants_sources.ensures i; image = image i; probes = probes i }

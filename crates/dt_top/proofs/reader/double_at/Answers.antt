@@ -1,7 +1,0 @@
-use Rattle.std.proofs.Common.{arith}
-use Rattle.dt_top.proofs.Fields.{double_of_part}
-use Rattle.dt_top.proofs.reader.double_at.Goals as goal
-
-pub returns : goal.returns
-returns c =
-    double_of_part c.args.bytes.now c.copy_from_slice.new.self c.args.at _ _ (omega arith) c.requires (λ i. omega (arith, c.type_inv.bytes i)) c.copy_from_slice.ensures.after c.from_le_bytes.ensures
