@@ -17,7 +17,8 @@ use Rattle.dt_reference.specs.HartActions.{action_of, actions_of}
 use Rattle.dt_sources.specs.Choice.{ChoosesLeast, LeastChoiceIsLeast}
 use Rattle.dt_hart.specs.Built.{is_built}
 use Rattle.dt_hart.specs.HartView.{HartView}
-use Rattle.dt_hart.specs.OwnWrites.{GoesOn, are_of, are_rising, own_writes_from}
+use Rattle.dt_hart.specs.OwnWrites.{GoesOn, are_of, are_rising}
+use Rattle.dt_writes.specs.OwnWrites.{own_writes_from}
 use Rattle.dt_hart.specs.Settings.{Setting, after, at_first, did, last_stamp, moments_after}
 use Rattle.dt_hart.specs.Standing.{StandsFor}
 use Rattle.dt_judge.specs.Judgement.{Finds}
