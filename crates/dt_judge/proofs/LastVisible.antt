@@ -9,7 +9,7 @@ use Rattle.dt_versions.specs.Spans.{AreVisible, last_visible}
 
 -- The greatest visible moment.
 
-within_prefix : {X : Type 0} (p : X → Bool) (k : ℕ) (xs : List X) → k ≤ length xs → IsTrue (list_all p (take k xs)) → k ≤ prefix_len p xs
+pub within_prefix : {X : Type 0} (p : X → Bool) (k : ℕ) (xs : List X) → k ≤ length xs → IsTrue (list_all p (take k xs)) → k ≤ prefix_len p xs
 within_prefix p zero xs within all = omega arith
 within_prefix p (suc k) [] within all = absurd (omega arith)
 within_prefix p (suc k) (x ∷ xs) within all =

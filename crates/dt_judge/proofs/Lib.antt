@@ -1,7 +1,13 @@
+mod EarlierMoments
 mod Fenceless
 mod LastVisible
+mod LaterFindings
+mod LaterReads
+mod LaterWrites
 mod Leading
 mod Meeting
+mod OneFinding
 mod Placing
 mod Readings
+mod SeenActions
 mod Widths

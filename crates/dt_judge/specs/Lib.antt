@@ -4,6 +4,7 @@ pub mod Judgement
 pub mod Judging
 pub mod Kinds
 pub mod Reserving
+pub mod Laws
 pub mod Runs
 pub mod Unfenced
 pub mod Windows

@@ -5,6 +5,7 @@
 mod findings;
 mod judging;
 mod kinds;
+mod laws;
 mod loads;
 mod spans;
 #[cfg(test)]
@@ -12,3 +13,4 @@ mod tests;
 
 pub use dt_hart::{Hart, is_built};
 pub use judging::{Judged, judge};
+pub use laws::{earlier_moments_decide, records_have_one_finding};

@@ -1,0 +1,101 @@
+use Rattle.std.proofs.Common.{ℕ, ◌≡◌, ◌||◌, ◌↔◌, Bool, true, false, Result, Ok, Err, IsTrue, refl, sym, ap, ◌∙◌}
+use Rattle.dt_record.specs.declared.accesses.LoadAsk.{LoadAsk}
+use Rattle.dt_record.specs.declared.keys.Key.{Key}
+use Rattle.dt_record.specs.declared.records.Body.{Body}
+use Rattle.dt_record.specs.declared.records.Body.TheVariants.{Commit, Trap, Regs, Csrs, Load, Store, Atomic, Drain, Refill, Beat}
+use Rattle.dt_record.specs.declared.records.Record.{Record}
+use Rattle.dt_record.specs.Lawful.{is_in_ram}
+use Rattle.dt_hart.specs.Settings.{Setting, key_in}
+use Rattle.dt_loads.specs.declared.reading.Passed.{Passed}
+use Rattle.dt_loads.specs.Checks.{order_check}
+use Rattle.dt_loads.specs.Reading.{LoadsHaveOneAnswer, ask_of}
+use Rattle.dt_rules.specs.declared.misfits.Misfit.{Misfit}
+use Rattle.dt_rules.specs.declared.misfits.TheConstants.{NO_LETTERS}
+use Rattle.dt_step.specs.declared.plans.Planned.{Planned}
+use Rattle.dt_step.specs.declared.plans.Planned.TheVariants.{Done, NeedsLoad, NeedsStore, NeedsAtomic, Csr, Returns, Fences, FenceI, FencesPages, Raises}
+use Rattle.dt_traps.specs.Instructions.{atomic_access}
+use Rattle.dt_walk.specs.declared.arguments.Access.TheVariants as access
+use Rattle.dt_judge.specs.Atomics.{AtomicAccess, AtomicPasses, ReadsNewer, access_check, fails_alive, sources_of}
+use Rattle.dt_judge.specs.Grounds.{Grounds, grounds_of}
+use Rattle.dt_judge.specs.Judgement.{FindsBody, Finds}
+use Rattle.dt_judge.specs.Kinds.{Accesses, AtomicBy, Leads, Loads, LoadsBy, ReadsRam, Said, access_in, accessed, started, with_p}
+
+-- A record has one finding.
+
+-- a finding that what came before decides
+abbrev pub IsOne : (Result Passed Misfit → Type 0) → Type 0
+IsOne P = (f g : Result Passed Misfit) → P f → P g → f ≡ g
+
+leads_one : {A : Type 0} (r : Result A Misfit) (Later : A → Result Passed Misfit → Type 0) → ((x : A) → IsOne (Later x)) → IsOne (Leads r Later)
+leads_one (Ok x) Later one f g is also = one x f g is also
+leads_one (Err refused) Later one f g is also = is ∙ sym also
+
+reads_one : LoadsHaveOneAnswer → (g : Grounds) (p : Bool) (ask : LoadAsk) (signed : Bool) (value : ℕ) → IsOne (ReadsRam g p ask signed value)
+reads_one law g p ask signed value f h is also =
+    is.3 ∙ ap (with_p p) (law g.image g.writes g.actions g.moments ask signed value is.0 also.0 is.1 also.1 is.2 also.2) ∙ sym also.3
+
+loads_one : LoadsHaveOneAnswer → (in_ram : Bool) (g : Grounds) (p : Bool) (ask : LoadAsk) (signed : Bool) (value : ℕ) → IsOne (Loads in_ram g p ask signed value)
+loads_one law true g p ask signed value f h is also =
+    leads_one (order_check g.actions ask.at) (λ _ found. ReadsRam g p ask signed value found) (λ _. reads_one law g p ask signed value) f h is also
+loads_one law false g p ask signed value f h is also = is ∙ sym also
+
+loads_by_one : LoadsHaveOneAnswer → (g : Grounds) (key : Key) (stale : Bool) (plan : Planned) (value at paddr : ℕ) → IsOne (LoadsBy g key stale plan value at paddr)
+loads_by_one law g key stale (NeedsLoad va width signed rd) value at paddr f h is also =
+    leads_one (accessed g access.Load false va paddr) (λ older found. Loads (is_in_ram paddr) g (stale || older) (ask_of key at paddr width value) signed value found)
+    (λ older. loads_one law (is_in_ram paddr) g (stale || older) (ask_of key at paddr width value) signed value) f h is also
+loads_by_one law g key stale (Done rd due next) value at paddr f h is also = is ∙ sym also
+loads_by_one law g key stale (NeedsStore va width due) value at paddr f h is also = is ∙ sym also
+loads_by_one law g key stale (NeedsAtomic va width op aq rl rd operand) value at paddr f h is also = is ∙ sym also
+loads_by_one law g key stale (Csr number op operand reads writes rd) value at paddr f h is also = is ∙ sym also
+loads_by_one law g key stale (Returns from_m) value at paddr f h is also = is ∙ sym also
+loads_by_one law g key stale (Fences ww wr rr) value at paddr f h is also = is ∙ sym also
+loads_by_one law g key stale FenceI value at paddr f h is also = is ∙ sym also
+loads_by_one law g key stale (FencesPages va all) value at paddr f h is also = is ∙ sym also
+loads_by_one law g key stale (Raises cause tval) value at paddr f h is also = is ∙ sym also
+
+same_test : (a b : Bool) (P : Type 0) → (IsTrue a ↔ P) → (IsTrue b ↔ P) → a ≡ b
+same_test true true P is also = refl
+same_test false false P is also = refl
+same_test true false P is also = sym (also.1 (is.0 refl))
+same_test false true P is also = is.1 (also.0 refl)
+
+passes_one : (g : Grounds) (key : Key) (p : Bool) (x : AtomicAccess) → IsOne (AtomicPasses g key p x)
+passes_one g key p x f h is also =
+    let with_l : Bool → Result Passed Misfit = λ l. Ok (record { letters = record NO_LETTERS { l = l; s = fails_alive g key x; p = p }; sources = sources_of g key x }) in
+    is.2 ∙ ap with_l (same_test is.0 also.0 (ReadsNewer g key x) is.1 also.1) ∙ sym also.2
+
+accesses_one : (g : Grounds) (key : Key) (p : Bool) (x : AtomicAccess) → IsOne (Accesses g key p x)
+accesses_one g key p x f h is also = leads_one (access_check g key x) (λ _ found. AtomicPasses g key p x found) (λ _. passes_one g key p x) f h is also
+
+atomic_by_one : (g : Grounds) (key : Key) (stale : Bool) (plan : Planned) (said : Said) → IsOne (AtomicBy g key stale plan said)
+atomic_by_one g key stale (NeedsAtomic va width op aq rl rd operand) said f h is also =
+    leads_one (accessed g (atomic_access op) true va said.paddr) (λ older found. Accesses g key (stale || older) (access_in op width rl operand said) found)
+    (λ older. accesses_one g key (stale || older) (access_in op width rl operand said)) f h is also
+atomic_by_one g key stale (Done rd value next) said f h is also = is ∙ sym also
+atomic_by_one g key stale (NeedsLoad va width signed rd) said f h is also = is ∙ sym also
+atomic_by_one g key stale (NeedsStore va width value) said f h is also = is ∙ sym also
+atomic_by_one g key stale (Csr number op operand reads writes rd) said f h is also = is ∙ sym also
+atomic_by_one g key stale (Returns from_m) said f h is also = is ∙ sym also
+atomic_by_one g key stale (Fences ww wr rr) said f h is also = is ∙ sym also
+atomic_by_one g key stale FenceI said f h is also = is ∙ sym also
+atomic_by_one g key stale (FencesPages va all) said f h is also = is ∙ sym also
+atomic_by_one g key stale (Raises cause tval) said f h is also = is ∙ sym also
+
+body_one : LoadsHaveOneAnswer → (g : Grounds) (key : Key) (b : Body) → IsOne (FindsBody g key b)
+body_one law g key (Load retire at paddr) f h is also =
+    leads_one (started g retire.pc retire.bits 5) (λ st found. LoadsBy g key st.stale st.plan retire.value at paddr found)
+    (λ st. loads_by_one law g key st.stale st.plan retire.value at paddr) f h is also
+body_one law g key (Atomic retire paddr width wrote new) f h is also =
+    let said : Said = record { value = retire.value; paddr = paddr; width = width; wrote = wrote; new = new } in
+    leads_one (started g retire.pc retire.bits 7) (λ st found. AtomicBy g key st.stale st.plan said found) (λ st. atomic_by_one g key st.stale st.plan said) f h is also
+body_one law g key (Commit retire) f h is also = is ∙ sym also
+body_one law g key (Trap pc bits cause tval) f h is also = is ∙ sym also
+body_one law g key (Regs pc x) f h is also = is ∙ sym also
+body_one law g key (Csrs mode v) f h is also = is ∙ sym also
+body_one law g key (Store pc bits paddr value) f h is also = is ∙ sym also
+body_one law g key (Drain line mask count bytes) f h is also = is ∙ sym also
+body_one law g key (Refill line bytes) f h is also = is ∙ sym also
+body_one law g key Beat f h is also = is ∙ sym also
+
+pub one_finding : LoadsHaveOneAnswer → (s : Setting) (r : Record) (f g : Result Passed Misfit) → Finds s r f → Finds s r g → f ≡ g
+one_finding law s r f g is also = body_one law (grounds_of s (key_in s r)) (key_in s r) r.body f g is also
