@@ -9,6 +9,7 @@ use Rattle.dt_record.specs.declared.writes.Write.{Write}
 use Rattle.dt_record.specs.declared.accesses.LoadAsk.{LoadAsk}
 use Rattle.dt_record.specs.Actions.{Loaded}
 use Rattle.dt_record.specs.Keys.{key_of, records_of}
+use Rattle.dt_record.specs.Lawful.{is_lawful}
 use Rattle.dt_record.specs.Writes.{writes_of}
 use Rattle.dt_versions.specs.History.{History}
 use Rattle.dt_rules.specs.declared.misfits.Misfit.{Misfit}
@@ -96,9 +97,12 @@ meets : (held : History) (wide : Bool) (hart : ℕ) (own before : List Record) (
 meets held wide hart own before h r more moments are is stands = record {
   stands = stands;
   goes_on = goes_on held wide hart own before r more moments are is;
-  image = refl;
-  writes = refl;
+  lawful = all_front is_lawful before (r ∷ more) (ap (list_all is_lawful) (sym is) ∙ are.lawful);
   built = all_front is_built before (r ∷ more) (ap (list_all is_built) (sym is) ∙ are.built);
+  image = refl;
+  later = [];
+  writes = sym (append-nil held.writes);
+  after = refl;
 }
 
 -- where the hart stands: behind so many records, in the cycle of the last

@@ -9,7 +9,7 @@ use Rattle.std.proofs.lemmas.List.Sums.{count_by-le-length, length-filter}
 use Rattle.dt_record.specs.declared.records.Record.{Record}
 use Rattle.dt_record.specs.declared.records.Body.TheVariants.{Commit}
 use Rattle.dt_record.specs.Keys.{records_of}
-use Rattle.dt_record.specs.Lawful.{IsLawful}
+use Rattle.dt_record.specs.Lawful.{is_lawful}
 use Rattle.dt_record.specs.ProbeFile.{AreRecords, no_stamps, stamped}
 use Rattle.dt_record.specs.Writes.{write_of_record}
 use Rattle.dt_versions.specs.History.{History, are_in_order}
@@ -30,6 +30,7 @@ pub record AreOwn (held : History) (hart : ℕ) (own : List Record) : Type 0 whe
   pub rising : are_rising own ≡ true
   pub in_order : are_in_order held.writes ≡ true
   pub writes : filter (λ w. w.key.hart == hart) held.writes ≡ own_writes_from 0 own
+  pub lawful : list_all is_lawful own ≡ true
   pub built : list_all is_built own ≡ true
   pub few : length own ≤ 4_194_304
 
@@ -83,12 +84,18 @@ rises harts last hart (r ∷ rs) are =
           subst (RisesFrom (last hart)) (sym (cond-false (r.hart == hart) (r ∷ own) own other)) (subst (λ n. RisesFrom n own) still rest)
     ]
 
+-- each record of a file is lawful
+pub all_lawful : (harts : ℕ) (last : ℕ → ℕ) (rs : List Record) → AreRecords harts last rs → list_all is_lawful rs ≡ true
+all_lawful harts last [] are = refl
+all_lawful harts last (r ∷ rs) are = and_from (is_lawful r) (list_all is_lawful rs) are.0.lawful (all_lawful harts (stamped last r) rs are.1)
+
 pub are_own : (held : History) (records : List Record) (hart : ℕ) → AreJudgeable held records → OwnWritesAreOfRecords → WritesStandInOrder → AreOwn held hart (records_of hart records)
 are_own held records hart can own in_order = record {
   its = all_of hart records;
   rising = (rises can.file.harts no_stamps hart records can.file.each).rising;
   in_order = ap are_in_order can.writes ∙ in_order records;
   writes = ap (λ ws. filter (λ w. w.key.hart == hart) ws) can.writes ∙ own records hart can.file;
+  lawful = all_kept is_lawful (λ r. r.hart == hart) records (all_lawful can.file.harts no_stamps records can.file.each);
   built = all_kept is_built (λ r. r.hart == hart) records can.built;
   few = omega (arith, can.file.few_records, length-filter (λ (r : Record). r.hart == hart) records, count_by-le-length (λ (r : Record). r.hart == hart) records);
 }
@@ -136,12 +143,6 @@ stamp_rises stamp [] r more rising below = below
 stamp_rises stamp (q ∷ qs) r more rising below =
     let parts = and_parts (list_all (λ (x : Record). nat_le q.stamp x.stamp) (qs ++ r ∷ more)) (are_rising (qs ++ r ∷ more)) rising in
     stamp_rises q.stamp qs r more parts.1 (leb-true q.stamp r.stamp (all_seam (λ (x : Record). nat_le q.stamp x.stamp) qs r more parts.0))
-
--- each record of a file is lawful, and of those that are judged so far
-pub lawful_at : (harts : ℕ) (last : ℕ → ℕ) (rs : List Record) (i : ℕ) (d : Record) → AreRecords harts last rs → i < length rs → IsLawful (get_or rs i d)
-lawful_at harts last [] i d are within = absurd (omega arith)
-lawful_at harts last (r ∷ rs) zero d are within = are.0.lawful
-lawful_at harts last (r ∷ rs) (suc i) d are within = lawful_at harts (stamped last r) rs i d are.1 (omega arith)
 
 pub all_at : (p : Record → Bool) (rs : List Record) (i : ℕ) (d : Record) → list_all p rs ≡ true → i < length rs → p (get_or rs i d) ≡ true
 all_at p [] i d all within = absurd (omega arith)

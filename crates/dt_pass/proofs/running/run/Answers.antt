@@ -3,10 +3,11 @@ use Rattle.std.proofs.lemmas.Bool.{eq-eqb, ne_eqb}
 use Rattle.std.proofs.lemmas.List.{take_all}
 use Rattle.dt_record.specs.ProbeFile.{no_stamps}
 use Rattle.dt_record.specs.Keys.{records_of}
+use Rattle.dt_record.specs.Lawful.{is_lawful}
 use Rattle.dt_verdict.specs.declared.tallies.Noted.{Noted}
 use Rattle.dt_pass.specs.Running.{IsStep}
 use Rattle.dt_pass.proofs.HartRuns.{allowed_next, no_failure, passed_by, has_failed, has_passed, stands_at, starts}
-use Rattle.dt_pass.proofs.OwnRecords.{any_record, are_own, before_more, before_same, lawful_at, own_from}
+use Rattle.dt_pass.proofs.OwnRecords.{all_at, all_lawful, any_record, are_own, before_more, before_same, own_from}
 use Rattle.dt_pass.proofs.running.run.Goals.{then-event-number+in_ok-failure+in_default, else-event-number}
 use Rattle.dt_pass.proofs.running.run.Goals as goal
 
@@ -15,7 +16,7 @@ loop-event-init c = starts _ _ _ _ _ _ c.new-hart.ensures.stands c.new-hart.ensu
 
 pub step-requires-clause-lawful : goal.step-requires-clause-lawful
 step-requires-clause-lawful c =
-    lawful_at c.requires.file.harts no_stamps c.args.records.now c.loop-event.event-index any_record c.requires.file.each c.loop-event-test.true
+    all_at is_lawful c.args.records.now c.loop-event.event-index any_record (all_lawful c.requires.file.harts no_stamps c.args.records.now c.requires.file.each) c.loop-event-test.true
 
 pub step-requires-clause-its : goal.step-requires-clause-its
 step-requires-clause-its c = c.if-event-number.true ∙ sym c.loop-event.invariant.number
