@@ -48,6 +48,11 @@ leads_too : {A : Type 0} (r : Result A Misfit) (Later Other : A → Result Passe
 leads_too (Ok x) Later Other f too is = too x is
 leads_too (Err refused) Later Other f too is = is
 
+-- a load reads in a cycle that is not later
+abbrev pub ReadsUntil : ℕ → Body → Type 0
+ReadsUntil stamp (Load retire at paddr) = at ≤ stamp
+ReadsUntil stamp body = Unit {0}
+
 module _ (laws : CheckLaws) (h : HartView) (m : History) (later : List Write) (stamp : ℕ) (after : IsTrue (are_later stamp later)) (seen : Span) (within : seen.last ≤ length m.writes)
     (actions : List Action) (moments : ℕ → ℕ) (reserved : Option (ℕ × Key)) (steady : Steady m.writes later actions moments) where
   abbrev few : Grounds
@@ -106,12 +111,7 @@ module _ (laws : CheckLaws) (h : HartView) (m : History) (later : List Write) (s
   loads_by key stale (FencesPages va all) value at paddr f before early is = is
   loads_by key stale (Raises cause tval) value at paddr f before early is = is
 
-  -- a load reads in a cycle that is not later
-  abbrev pub ReadsBy : Body → Type 0
-  ReadsBy (Load retire at paddr) = at ≤ stamp
-  ReadsBy body = Unit {0}
-
-  pub finds_more : (key : Key) (b : Body) (f : Result Passed Misfit) → IsTrue (is_built_body b) → ReadsBy b → key.stamp ≤ stamp → FindsBody few key b f → FindsBody more key b f
+  pub finds_more : (key : Key) (b : Body) (f : Result Passed Misfit) → IsTrue (is_built_body b) → ReadsUntil stamp b → key.stamp ≤ stamp → FindsBody few key b f → FindsBody more key b f
   finds_more key (Commit retire) f built at early is =
       is ∙ ap (λ r. and_then r (λ (st : Started).
       and_then (undrained_check actions st.plan key.stamp key.seq) (λ _.

@@ -1,13 +1,12 @@
-use Rattle.std.proofs.Common.{ℕ, ◌≡◌, ◌+◌, ◌<◌, ◌≤◌, ◌↔◌, ◌⊎◌, Bool, true, false, Option, Some, None, List, [], ◌∷◌, ◌++◌, length, take, zero, suc, Result, Ok, Err, IsTrue, refl, sym, ap, subst, ◌∙◌, inl, inr, arith}
-use Rattle.std.specs.Prelude.{Contains, IfSome}
+use Rattle.std.proofs.Common.{ℕ, ◌≡◌, ◌+◌, ◌<◌, ◌≤◌, Bool, false, Option, Some, None, List, [], ◌∷◌, ◌++◌, length, take, zero, suc, Result, Ok, Err, IsTrue, refl, sym, ap, subst, ◌∙◌, inl, inr, arith}
+use Rattle.std.specs.Prelude.{IfSome}
 use Rattle.std.specs.List.{slice_get}
 use Rattle.std.proofs.lemmas.List.Elements.{Contains-append_left}
-use Rattle.std.proofs.lemmas.Option.{IfSome_then, slice_get_within}
+use Rattle.std.proofs.lemmas.Option.{IfSome_then}
 use Rattle.dt_alu.specs.Extend.{extend_value}
 use Rattle.dt_record.specs.declared.accesses.LoadAsk.{LoadAsk}
 use Rattle.dt_record.specs.declared.keys.Key.{Key}
 use Rattle.dt_record.specs.declared.origins.Origin.{Origin}
-use Rattle.dt_record.specs.declared.origins.Origin.TheVariants as origin
 use Rattle.dt_record.specs.declared.origins.Sources.{Sources}
 use Rattle.dt_record.specs.declared.reasons.Reason.TheVariants.{LoadSource}
 use Rattle.dt_record.specs.declared.writes.Write.{Write}
@@ -20,7 +19,7 @@ use Rattle.dt_rules.specs.declared.misfits.Misfit.{Misfit}
 use Rattle.dt_rules.specs.Checks.{misfit}
 use Rattle.dt_sources.specs.Choice.{FitsNext, then_action}
 use Rattle.dt_sources.specs.Finding.{AreSourcesAt}
-use Rattle.dt_sources.specs.Knowing.{AreJudged, HadFrom, IsGreatest, IsKnownKey, Knows}
+use Rattle.dt_sources.specs.Knowing.{AreJudged, IsGreatest, IsKnownKey, Knows}
 use Rattle.dt_versions.specs.Spans.{last_visible}
 use Rattle.dt_judge.specs.Judging.{are_later}
 use Rattle.dt_judge.proofs.LaterWrites.{is_earlier, last_same, last_within, origin_same, sees_less, sees_more, value_same, wrote_less, wrote_more}

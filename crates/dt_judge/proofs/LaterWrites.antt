@@ -1,8 +1,8 @@
-use Rattle.std.proofs.Common.{ℕ, ◌≡◌, ◌+◌, ◌*◌, ◌<◌, ◌≤◌, ◌&&◌, ◌⊎◌, Bool, true, false, not, Option, Some, None, List, [], ◌∷◌, ◌++◌, length, take, drop, reverse, zero, suc, if◌then◌else◌, IsTrue, refl, sym, ap, subst, ◌∙◌, inl, inr, arith}
-use Rattle.std.specs.Prelude.{Contains, IfSome, find, nat_lt, nat_le}
-use Rattle.std.specs.List.{list_all, prefix_len, slice_get}
+use Rattle.std.proofs.Common.{ℕ, ◌≡◌, ◌+◌, ◌*◌, ◌≤◌, ◌&&◌, Bool, true, false, not, List, [], ◌∷◌, ◌++◌, length, take, drop, zero, suc, IsTrue, refl, sym, ap, subst, ◌∙◌, inl, inr, arith}
+use Rattle.std.specs.Prelude.{Contains, nat_lt}
+use Rattle.std.specs.List.{list_all, prefix_len}
 use Rattle.std.specs.Option.{option_map_or}
-use Rattle.std.proofs.lemmas.Bool.{and_parts, cases_Bool, false≢true}
+use Rattle.std.proofs.lemmas.Bool.{and_parts, cases_Bool}
 use Rattle.std.proofs.lemmas.Bool.Decides.{nat_tests}
 use Rattle.std.proofs.lemmas.List.{length-append, take-append-le, drop-append-le}
 use Rattle.std.proofs.lemmas.List.Elements.{All-contains, Contains-append_cases, Contains-append_left}
@@ -12,9 +12,9 @@ use Rattle.dt_record.specs.declared.accesses.LoadAsk.{LoadAsk}
 use Rattle.dt_record.specs.declared.keys.Key.{Key}
 use Rattle.dt_record.specs.declared.writes.Write.{Write}
 use Rattle.dt_record.specs.Actions.{Action, forwarded}
-use Rattle.dt_record.specs.Keys.{KeyBelow, key_below}
-use Rattle.dt_record.specs.LoadSources.{found_byte, found_value, origin_of, origin_of_key, stored_byte}
-use Rattle.dt_record.specs.Memory.{covers, memory_at, source_at}
+use Rattle.dt_record.specs.Keys.{KeyBelow}
+use Rattle.dt_record.specs.LoadSources.{found_byte, found_value, origin_of, stored_byte}
+use Rattle.dt_record.specs.Memory.{memory_at, source_at}
 use Rattle.dt_record.specs.Visible.{IsVisible, cannot_see, must_see}
 use Rattle.dt_sources.specs.Knowing.{WroteBefore}
 use Rattle.dt_versions.specs.Spans.{last_visible}

@@ -1,4 +1,4 @@
-use Rattle.std.proofs.Common.{ℕ, ◌≡◌, ◌==◌, Bool, true, false, List, Result, Ok, Err, None, refl, sym, subst, ◌∙◌}
+use Rattle.std.proofs.Common.{ℕ, ◌≡◌, ◌==◌, List, Result, Ok, Err, None, sym, subst}
 use Rattle.std.specs.Prelude.{OnOk, IfOk}
 use Rattle.std.specs.Map.{lookup}
 use Rattle.dt_record.specs.declared.keys.Key.{Key}

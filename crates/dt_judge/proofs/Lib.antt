@@ -9,4 +9,5 @@ mod Meeting
 mod OneFinding
 mod Placing
 mod Readings
+mod SeenActions
 mod Widths

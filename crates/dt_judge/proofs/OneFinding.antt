@@ -1,5 +1,4 @@
 use Rattle.std.proofs.Common.{ℕ, ◌≡◌, ◌||◌, ◌↔◌, Bool, true, false, Result, Ok, Err, IsTrue, refl, sym, ap, ◌∙◌}
-use Rattle.std.proofs.lemmas.Bool.{false≢true}
 use Rattle.dt_record.specs.declared.accesses.LoadAsk.{LoadAsk}
 use Rattle.dt_record.specs.declared.keys.Key.{Key}
 use Rattle.dt_record.specs.declared.records.Body.{Body}
@@ -19,14 +18,13 @@ use Rattle.dt_walk.specs.declared.arguments.Access.TheVariants as access
 use Rattle.dt_judge.specs.Atomics.{AtomicAccess, AtomicPasses, ReadsNewer, access_check, fails_alive, sources_of}
 use Rattle.dt_judge.specs.Grounds.{Grounds, grounds_of}
 use Rattle.dt_judge.specs.Judgement.{FindsBody, Finds}
-use Rattle.dt_judge.specs.Kinds.{Accesses, AtomicBy, IsAtomicFinding, IsLoadFinding, Leads, Loads, LoadsBy, LoadsRam, ReadsRam, Said, access_in, accessed, started, with_p}
+use Rattle.dt_judge.specs.Kinds.{Accesses, AtomicBy, Leads, Loads, LoadsBy, ReadsRam, Said, access_in, accessed, started, with_p}
 
 -- A record has one finding.
 
 -- a finding that what came before decides
 abbrev pub IsOne : (Result Passed Misfit → Type 0) → Type 0
 IsOne P = (f g : Result Passed Misfit) → P f → P g → f ≡ g
-
 
 leads_one : {A : Type 0} (r : Result A Misfit) (Later : A → Result Passed Misfit → Type 0) → ((x : A) → IsOne (Later x)) → IsOne (Leads r Later)
 leads_one (Ok x) Later one f g is also = one x f g is also

@@ -1,4 +1,4 @@
-use Rattle.std.proofs.Common.{ℕ, ◌≡◌, ◌||◌, Bool, true, false, List, Result, Ok, Err, IsTrue, refl, sym, subst, ◌∙◌, inl, inr, arith}
+use Rattle.std.proofs.Common.{ℕ, ◌≡◌, ◌||◌, Bool, true, false, List, Result, Ok, Err, refl, sym, subst, ◌∙◌, inl, inr}
 use Rattle.std.specs.Prelude.{IfOk}
 use Rattle.std.proofs.lemmas.Bool.{cases_Bool}
 use Rattle.dt_record.specs.declared.accesses.LoadAsk.{LoadAsk}
@@ -9,7 +9,7 @@ use Rattle.dt_record.specs.declared.records.Retire.{Retire}
 use Rattle.dt_record.specs.declared.writes.Write.{Write}
 use Rattle.dt_record.specs.Actions.{Action}
 use Rattle.dt_record.specs.Lawful.{is_in_ram}
-use Rattle.dt_checks.specs.Retiring.{IsRetired, due_tag}
+use Rattle.dt_checks.specs.Retiring.{IsRetired}
 use Rattle.dt_hart.specs.HartView.{HartView}
 use Rattle.dt_loads.specs.declared.reading.Passed.{Passed}
 use Rattle.dt_loads.specs.Reading.{IsLoadAnswer, ask_of}

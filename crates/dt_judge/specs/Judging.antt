@@ -1,9 +1,10 @@
-use Rattle.std.specs.Prelude.{ℕ, ◌≡◌, Bool, List, Ok, Err, IsTrue, nat_lt}
+use Rattle.std.specs.Prelude.{ℕ, ◌≡◌, Bool, List, ◌++◌, Ok, Err, IsTrue, nat_lt}
 use Rattle.std.specs.List.{list_all}
 use Rattle.dt_record.specs.declared.origins.Letters.{Letters}
 use Rattle.dt_record.specs.declared.origins.Sources.{Sources}
 use Rattle.dt_record.specs.declared.records.Record.{Record}
 use Rattle.dt_record.specs.declared.writes.Write.{Write}
+use Rattle.dt_record.specs.Lawful.{is_lawful}
 use Rattle.dt_hart.specs.Built.{is_built}
 use Rattle.dt_hart.specs.HartView.{HartView}
 use Rattle.dt_hart.specs.OwnWrites.{GoesOn}
@@ -25,14 +26,18 @@ are_built records = list_all is_built records
 abbrev pub are_later : ℕ → List Write → Bool
 are_later stamp writes = list_all (λ w. nat_lt stamp w.key.stamp) writes
 
--- A hart and the memory that it is judged over are those of a setting, with which this record goes on. Only records that
--- are built were judged before.
+-- A hart and the memory that it is judged over are those of a setting, with which this record goes on. The memory holds
+-- the first of all writes, and no write that it lacks is of the record's cycle or an earlier one. The records before are
+-- lawful and of the kinds that are built.
 pub record Meets (h : HartView) (m : History) (s : Setting) (r : Record) : Type 0 where
   pub stands : StandsFor h s
   pub goes_on : GoesOn s r
-  pub image : s.image ≡ m.image
-  pub writes : s.writes ≡ m.writes
+  pub lawful : IsTrue (list_all is_lawful s.before)
   pub built : IsTrue (are_built s.before)
+  pub image : s.image ≡ m.image
+  pub later : List Write
+  pub writes : s.writes ≡ m.writes ++ later
+  pub after : IsTrue (are_later r.stamp later)
 
 -- the answer is what the judgement finds
 abbrev pub IsJudged : Setting → Record → Judged → Type 0

@@ -3,8 +3,9 @@ pub mod Grounds
 pub mod Judgement
 pub mod Judging
 pub mod Kinds
-pub mod Reserving
 pub mod Laws
+pub mod Reserving
 pub mod Runs
 pub mod Unfenced
 pub mod Windows
+pub mod Worked

@@ -1,8 +1,6 @@
-use Rattle.std.specs.Prelude.{ℕ, ◌≡◌, Bool, Option, None, Some, List, [], ◌∷◌, ◌++◌, length, take, slice_get, Result, Ok, Err}
-use Rattle.dt_record.specs.declared.keys.Key.{Key}
+use Rattle.std.specs.Prelude.{ℕ, ◌≡◌, Bool, Option, None, Some, List, length, take, slice_get, Ok, Err}
 use Rattle.dt_record.specs.declared.records.Record.{Record}
 use Rattle.dt_record.specs.declared.writes.Write.{Write}
-use Rattle.dt_record.specs.Keys.{key_of}
 use Rattle.dt_reference.specs.HartActions.{actions_of}
 use Rattle.dt_rules.specs.declared.misfits.Misfit.{Misfit}
 use Rattle.dt_sources.specs.Choice.{ChoosesLeast}

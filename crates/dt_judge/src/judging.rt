@@ -5,10 +5,12 @@ ghost use Rattle.dt_hart.specs.Settings.{Setting};
 ghost use Rattle.dt_judge.specs.Judging.{GoesOnBy, IsJudged, Meets, OnFine, UnlessFine};
 
 use crate::findings::finding;
+use dt_checks::first_writes_decide_checks;
 use dt_hart::{Hart, known_at_next};
 use dt_record::{Key, Record};
 use dt_rules::{Letters, Reason};
 use dt_sources::Sources;
+use dt_traps::first_writes_decide_traps;
 use dt_versions::Moments;
 
 /// What the judge says of a record.
@@ -44,6 +46,8 @@ pub fn judge(h: &mut Hart, m: &Moments, event: &Record) -> Judged
     ensures unchanged { UnlessFine result (h.new ≡ h.old) }
 {
     known_at_next();
+    first_writes_decide_checks();
+    first_writes_decide_traps();
     let key = Key {
         stamp: event.stamp,
         hart: event.hart,

@@ -1,4 +1,4 @@
-use crate::{Hart, Judged, is_built, judge};
+use crate::{Hart, Judged, earlier_moments_decide, is_built, judge, records_have_one_finding};
 use dt_record::{Body, Image, Key, Origin, Record, Retire, Sources, Write, lawful};
 use dt_rules::{Letters, NO_LETTERS, NO_NUMBER, NO_SOURCES, Reason};
 use dt_versions::Moments;
@@ -219,6 +219,8 @@ fn traps_and_interrupts(rt: HostRuntime) -> Result<(), Fail> {
 
 #[test]
 fn loads_from_devices(rt: HostRuntime) -> Result<(), Fail> {
+    records_have_one_finding();
+    earlier_moments_decide();
     let taken = fine(Letters {
         d: true,
         ..NO_LETTERS

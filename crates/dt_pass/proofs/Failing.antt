@@ -45,7 +45,7 @@ failed_by image wide records hart allowed None f runs fails = absurd (cc)
 failed_by image wide records hart allowed (Some m) f runs fails =
     let end = runs.ends in
     let found : Some (failure_at (key_of (length allowed) end.0) m) ≡ Some f
-        = sym (ap (option_map (λ (r : Record). failure_at (key_of (length allowed) r) m)) end.1) ∙ fails in
+    = sym (ap (option_map (λ (r : Record). failure_at (key_of (length allowed) r) m)) end.1) ∙ fails in
     record { allowed = allowed; misfit = m; own = end.0; runs = runs; there = end.1; failure = sym (same_Some (failure_at (key_of (length allowed) end.0) m) f found) }
 
 failed : (image : List ℕ) (wide : Bool) (records : List Record) (run : HartRun) (f : Failure) → IsRun image wide records run → failure_of (records_of run.hart records) run ≡ Some f

@@ -17,7 +17,8 @@ use Rattle.dt_reference.specs.HartActions.{action_of, actions_of}
 use Rattle.dt_sources.specs.Choice.{ChoosesLeast, LeastChoiceIsLeast}
 use Rattle.dt_hart.specs.Built.{is_built}
 use Rattle.dt_hart.specs.HartView.{HartView}
-use Rattle.dt_hart.specs.OwnWrites.{GoesOn, are_of, are_rising, own_writes_from}
+use Rattle.dt_hart.specs.OwnWrites.{GoesOn, are_of, are_rising}
+use Rattle.dt_writes.specs.OwnWrites.{own_writes_from}
 use Rattle.dt_hart.specs.Settings.{Setting, after, at_first, did, last_stamp, moments_after}
 use Rattle.dt_hart.specs.Standing.{StandsFor}
 use Rattle.dt_judge.specs.Judgement.{Finds}
@@ -165,12 +166,12 @@ next_stands held wide hart own before old new r more p chosen next moments are i
     let s = setting held wide hart before moments in
     let same_now : AreSameReads (did s ++ option_to_list a) moments next = subst (λ actions. AreSameReads actions moments next) (go_on before r) same in
     let same_old : AreSameReads (actions_of before) moments chosen =
-        (λ place ask at. earlier_reads (did s) (option_to_list a) moments next same_now place ask at ∙ earlier place ask at) in
+    (λ place ask at. earlier_reads (did s) (option_to_list a) moments next same_now place ask at ∙ earlier place ask at) in
     let gone = allows.goes_on s (meets held wide hart own before old r more moments are is (stands moments same_old)) in
     let agree : AreSameReads (actions_of (before ++ r ∷ [])) (moments_after s a gone.0) next
-        = choices_agree held.image held.writes (actions_of (before ++ r ∷ [])) (moments_after s a gone.0) next law are.in_order gone.1.chosen there.chosen in
+    = choices_agree held.image held.writes (actions_of (before ++ r ∷ [])) (moments_after s a gone.0) next law are.in_order gone.1.chosen there.chosen in
     let kept : moments_after s a gone.0 ≡ moments
-        = keeps_moments s a gone.0 next same_now (subst (λ actions. AreSameReads actions (moments_after s a gone.0) next) (go_on before r) agree) in
+    = keeps_moments s a gone.0 next same_now (subst (λ actions. AreSameReads actions (moments_after s a gone.0) next) (go_on before r) agree) in
     subst (λ m. StandsFor new (setting held wide hart (before ++ r ∷ []) m)) kept gone.1
 
 pub allowed_next : (held : History) (wide : Bool) (hart : ℕ) (own before : List Record) (old new : HartView) (noted notes after_notes : List Noted) (r : Record) (more : List Record) (p : Passed)
@@ -184,8 +185,8 @@ allowed_next held wide hart own before old new noted notes after_notes r more p 
     let next = moments_after s a gone.0 in
     let here = there_is own before run.allowed r more is run.count in
     let old_reads = λ (moments : ℕ → ℕ) (same : AreSameReads (actions_of (before ++ r ∷ [])) moments next) (place : ℕ) (ask : LoadAsk) (at : slice_get (actions_of before) place ≡ Some (Loaded ask)).
-        earlier_reads (actions_of before) (option_to_list a) moments next (subst (λ actions. AreSameReads actions moments next) (go_on before r) same) place ask at
-        ∙ before_next s a gone.0 place ask at in
+    earlier_reads (actions_of before) (option_to_list a) moments next (subst (λ actions. AreSameReads actions moments next) (go_on before r) same) place ask at
+    ∙ before_next s a gone.0 place ask at in
     record {
       allowed = run.allowed ++ p ∷ [];
       count = length-append run.allowed (p ∷ []) ∙ ap (λ n. n + 1) run.count ∙ sym (length-append before (r ∷ []));

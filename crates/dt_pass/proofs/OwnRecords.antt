@@ -14,10 +14,10 @@ use Rattle.dt_record.specs.ProbeFile.{AreRecords, no_stamps, stamped}
 use Rattle.dt_record.specs.Writes.{write_of_record}
 use Rattle.dt_versions.specs.History.{History, are_in_order}
 use Rattle.dt_hart.specs.Built.{is_built}
-use Rattle.dt_hart.specs.OwnWrites.{are_of, are_rising, own_writes_from}
+use Rattle.dt_hart.specs.OwnWrites.{are_of, are_rising}
 use Rattle.dt_hart.specs.Settings.{stamp_from}
 use Rattle.dt_writes.specs.Laws.{OwnWritesAreOfRecords, WritesStandInOrder}
-use Rattle.dt_writes.specs.OwnWrites.{own_writes_from as writes_from}
+use Rattle.dt_writes.specs.OwnWrites.{own_writes_from}
 use Rattle.dt_pass.specs.Running.{AreJudgeable}
 
 -- the record that stands for one past the end
@@ -83,16 +83,12 @@ rises harts last hart (r ∷ rs) are =
           subst (RisesFrom (last hart)) (sym (cond-false (r.hart == hart) (r ∷ own) own other)) (subst (λ n. RisesFrom n own) still rest)
     ]
 
-same_writes : (seq : ℕ) (rs : List Record) → writes_from seq rs ≡ own_writes_from seq rs
-same_writes seq [] = refl
-same_writes seq (r ∷ rs) = ap (λ ws. option_to_list (write_of_record seq r) ++ ws) (same_writes (seq + 1) rs)
-
 pub are_own : (held : History) (records : List Record) (hart : ℕ) → AreJudgeable held records → OwnWritesAreOfRecords → WritesStandInOrder → AreOwn held hart (records_of hart records)
 are_own held records hart can own in_order = record {
   its = all_of hart records;
   rising = (rises can.file.harts no_stamps hart records can.file.each).rising;
   in_order = ap are_in_order can.writes ∙ in_order records;
-  writes = ap (λ ws. filter (λ w. w.key.hart == hart) ws) can.writes ∙ own records hart can.file ∙ same_writes 0 (records_of hart records);
+  writes = ap (λ ws. filter (λ w. w.key.hart == hart) ws) can.writes ∙ own records hart can.file;
   built = all_kept is_built (λ r. r.hart == hart) records can.built;
   few = omega (arith, can.file.few_records, length-filter (λ (r : Record). r.hart == hart) records, count_by-le-length (λ (r : Record). r.hart == hart) records);
 }

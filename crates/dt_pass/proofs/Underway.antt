@@ -122,8 +122,8 @@ after_header told left after harts h wide w records old new u takes t =
     record {
       came = comes_next told left after (so_far old.harts wide records) (so_far new.harts w records) (Header h w) takes (λ e. cc) (λ e. cc)
           (ap (λ (z : Option ℕ). so_far z wide records ++ Header h w ∷ []) t.first
-              ∙ ap (λ (z : List Record). first_answers h w z) (sym none)
-              ∙ ap (λ (z : Option ℕ). so_far z w records) (sym t.harts_are))
+          ∙ ap (λ (z : List Record). first_answers h w z) (sym none)
+          ∙ ap (λ (z : Option ℕ). so_far z w records) (sym t.harts_are))
           u.came;
       open_still = t.open_still;
       unopened = λ e. let bad : Some h ≡ None = sym t.harts_are ∙ e in cc;
@@ -309,3 +309,10 @@ stands_behind told left harts wide records old new event refusal.OutOfMemory u t
 stands_behind told left harts wide records old new event (refusal.Malformed offset) u t at = absurd at
 stands_behind told left harts wide records old new event (refusal.Limit what number) u t at = absurd at
 stands_behind told left harts wide records old new event refusal.ReadFault u t at = absurd at
+
+-- a stream that came to its end is not refused
+pub accepted : (told : Option (List Next)) (p : Progress) (harts : ℕ) (wide : Bool) (records : List Record) → HasCome told p harts wide records
+    → IfSome told (λ answers. refusal_in answers ≡ None)
+accepted told p harts wide records came =
+    told_map told (λ answers. (more : List Next) × (answers ≡ first_answers harts wide records ++ End (length records) ∷ more)) (λ answers. refusal_in answers ≡ None) came.answers
+    (λ answers h. ap refusal_in h.1 ∙ refusal_from-built 0 records (End (length records) ∷ h.0) came.built)

@@ -6,6 +6,8 @@ mod checking;
 mod laws;
 mod reading;
 mod running;
+#[cfg(test)]
+mod tests;
 
 pub use checking::pass;
 pub use laws::{fail_is_first, pass_is_all_allowed};

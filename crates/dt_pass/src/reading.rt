@@ -1,4 +1,4 @@
-ghost use Rattle.std.specs.Prelude.{◌≡◌, ◌≢◌, ◌≤◌, ◌<◌, ◌+◌, ◌++◌, ◌∷◌, [], Some, IfOk, IfErr, IfSome, OnOk, Err, length, MatchResult, false, true};
+ghost use Rattle.std.specs.Prelude.{◌≡◌, ◌≢◌, ◌≤◌, ◌<◌, ◌+◌, ◌++◌, ◌∷◌, [], Some, None, IfOk, IfErr, IfSome, OnOk, Err, length, MatchResult, false, true};
 ghost use Rattle.dt_record.specs.Lawful.{IsLawful};
 ghost use Rattle.dt_record.specs.Streams.{IsFresh, Rose};
 ghost use Rattle.dt_verdict.specs.declared.answers.Refusal.TheVariants as refusal;
@@ -7,7 +7,8 @@ ghost use Rattle.dt_pass.specs.Reading.{HasCome, IsRefusedAt, refusal_in};
 ghost use Rattle.dt_pass.specs.Underway.{IsUnbuiltAt};
 
 use dt_hart::is_built;
-use dt_record::{Next, Probes, Record};
+use dt_probe_file::LentProbes;
+use dt_record::{Next, Record};
 use dt_verdict::Refusal;
 use std::alloc::Global;
 
@@ -20,13 +21,15 @@ pub(crate) struct Listed {
 }
 
 /// Reads a stream to its end, or to the first record that is not judged yet.
-pub(crate) fn read_all<P: Probes>(alloc: Global, probes: &mut P) -> Result<Listed, Refusal>
+pub(crate) fn read_all<P: LentProbes>(alloc: Global, probes: &mut P) -> Result<Listed, Refusal>
     requires { IsFresh (P.progress probes.old) }
     ensures came { IfOk result (λ l. HasCome (P.left probes.old) (P.progress probes.new) l.harts l.wide l.records.items) }
+    ensures accepted { OnOk result (IfSome (P.left probes.old) (λ answers. refusal_in answers ≡ None)) }
     ensures refused { IfErr result (λ r. r ≢ refusal.ReadFault → r ≢ refusal.OutOfMemory → IfSome (P.left probes.old) (λ answers. refusal_in answers ≡ Some r)) }
     ensures refused_at { IfErr result (λ r. IsRefusedAt (P.progress probes.new) r) }
     ensures fault { result ≡ Err refusal.ReadFault → Rose (P.faults probes.old) (P.faults probes.new) }
     ensures never_falls { P.faults probes.old ≤ P.faults probes.new }
+    ensures same_lent { P.lent probes.new ≡ P.lent probes.old }
 {
     let mut stream = Listed {
         harts: 0,
@@ -34,7 +37,7 @@ pub(crate) fn read_all<P: Probes>(alloc: Global, probes: &mut P) -> Result<Liste
         records: Vec::new(alloc),
     };
     loop {
-        match probes.next() {
+        match probes.answer() {
             Next::Header { harts, wide } => {
                 stream.harts = harts;
                 stream.wide = wide;

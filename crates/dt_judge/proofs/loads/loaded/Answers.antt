@@ -1,4 +1,4 @@
-use Rattle.std.proofs.Common.{ℕ, ◌≡◌, ◌||◌, Bool, true, false, sym, ap, subst, ◌∙◌}
+use Rattle.std.proofs.Common.{◌≡◌, ◌||◌, Bool, true, false, sym, ap, subst, ◌∙◌}
 use Rattle.dt_checks.specs.Addresses.{address_check}
 use Rattle.dt_checks.specs.Translating.{walk_args}
 use Rattle.dt_record.specs.declared.accesses.LoadAsk.{LoadAsk}

@@ -1,6 +1,6 @@
-use Rattle.std.proofs.Common.{List, refl, sym, subst, arith}
+use Rattle.std.proofs.Common.{List, refl, sym, subst, arith, ◌∙◌}
 use Rattle.dt_record.specs.declared.records.Record.{Record}
-use Rattle.dt_pass.proofs.Underway.{IsUnderway, after_record, at_end, lawful_next, refused, stands_behind, unbuilt}
+use Rattle.dt_pass.proofs.Underway.{IsUnderway, accepted, after_record, at_end, lawful_next, refused, stands_behind, unbuilt}
 use Rattle.dt_pass.proofs.reading.read_all.Goals as goal
 
 pub list-requires : goal.list-requires
@@ -9,13 +9,14 @@ list-requires g c = (lawful_next _ _ c.in-Event.event c.in-Event.ensures.step).1
 pub loop-harts-preserved : goal.loop-harts-preserved
 loop-harts-preserved g c =
     let left = g.P.Probes.left in
-    let new = g.P.Probes.progress c.next.new.self in
+    let new = g.P.Probes.progress c.answer.new.self in
     record {
       underway =
-          subst (λ (rs : List Record). IsUnderway (left c.args.probes.now) (left c.next.new.self) c.loop-harts.stream.harts c.loop-harts.stream.wide rs new)
+          subst (λ (rs : List Record). IsUnderway (left c.args.probes.now) (left c.answer.new.self) c.loop-harts.stream.harts c.loop-harts.stream.wide rs new)
           (sym c.in-Ok.ensures.listed)
           (after_record _ _ _ _ _ _ _ _ c.in-Event.event c.loop-harts.invariant.underway c.in-Event.ensures.told c.in-Event.ensures.step c.in-Ok.ensures.built);
       counted = omega (arith, c.loop-harts.invariant.counted, c.in-Event.ensures.rising);
+      same_lent = c.in-Event.ensures.same_lent ∙ c.loop-harts.invariant.same_lent;
     }
 
 pub returns-in-Err-clause-refused : goal.returns-in-Err-clause-refused
@@ -36,3 +37,7 @@ returns-in-Malformed-clause-refused g c = λ read memory.
 pub returns-in-Limit-clause-refused : goal.returns-in-Limit-clause-refused
 returns-in-Limit-clause-refused g c = λ read memory.
     refused _ _ _ _ _ _ _ _ _ c.loop-harts.invariant.underway c.in-Limit.ensures.told (λ e. cc) (λ e. cc) (λ more. refl)
+
+pub returns-in-End-clause-accepted : goal.returns-in-End-clause-accepted
+returns-in-End-clause-accepted g c =
+    accepted _ _ _ _ _ (at_end _ _ _ _ c.in-End.count _ _ _ _ c.loop-harts.invariant.underway c.in-End.ensures.told c.in-End.ensures.step)
