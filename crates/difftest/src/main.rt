@@ -1,5 +1,6 @@
-//! `difftest pass IMAGE PROBES`: judges what a RISC-V design did, from its probe file. `difftest dump
-//! PROBES` prints the file's records, and `difftest convert --to N PROBES` writes it in another version.
+//! `difftest pass [--sources] IMAGE PROBES`: judges what a RISC-V design did, from its probe file.
+//! `difftest dump PROBES` prints the file's records, and `difftest convert --to N PROBES` writes it in
+//! another version.
 #![tactic(auto)]
 
 use dt_source::{FileSource, Sink, StdSink, write_all};

@@ -130,10 +130,10 @@ may_write asked image probes image_old image_new probes_old probes_new a came =
     elim (cases_eq a.status 5) [
       | inl five ↦ either (came.read_fault five) (λ f. inr (inl f)) (λ f. inr (inr (inl (f.0, inl f.1))))
       | inr not_five ↦
-        elim (cases_eq a.status 7) [
-          | inl seven ↦ inr (inr (inr (inl (came.memory seven))))
-          | inr not_seven ↦ inl (own_may asked image probes a (came.own not_five not_seven))
-        ]
+          elim (cases_eq a.status 7) [
+            | inl seven ↦ inr (inr (inr (inl (came.memory seven))))
+            | inr not_seven ↦ inl (own_may asked image probes a (came.own not_five not_seven))
+          ]
     ]
 
 pub ran_of_reply : (asked : Option Asked) (image probes : Option (List ℕ)) (image_old image_new probes_old probes_new out_old out_new : ℕ) (before after : Option (List ℕ)) (a : Answer) (status : ℕ)

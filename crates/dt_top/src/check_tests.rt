@@ -1,8 +1,6 @@
 //! Whole files by `pass`: several harts, loads, devices, counters, and input that is not judged.
 use crate::run_plain;
-use crate::tests::{
-    ADDI, PASS, START, commit, expect_check, file_of, image_of, record, retire,
-};
+use crate::tests::{ADDI, PASS, START, commit, expect_check, file_of, image_of, record, retire};
 use dt_record::{Body, Record};
 use dt_source::{CalmSource, Failed, MemSink, Source};
 use std::alloc::{AllocError, Global};
@@ -67,20 +65,26 @@ const HART_1: &str = "hart 1 retired=4 traps=0 loads=1 stores=0 atomics=0 drains
 fn a_load_sees_the_store_of_another_hart(rt: HostRuntime) -> Result<(), Fail> {
     let image = image_of(rt.alloc(), SHARING)?;
     let seen = sharing_file(rt.alloc(), 7, 12)?;
-    let passed = format!(in rt.alloc(); "PASS\nharts=2 records=10 writes=1\n{HART_0}{HART_1}\
-        rules L=1 S=0 P=0 I=0 D=0 C=0 Z=0\n")?;
+    let passed = format!(in rt.alloc();
+        "PASS\nharts=2 records=10 writes=1\n{HART_0}{HART_1}\
+        rules L=1 S=0 P=0 I=0 D=0 C=0 Z=0\n"
+    )?;
     expect_check(&rt, PASS, &image, &seen, 0, &passed)?;
     let noted = format!(in rt.alloc(); "{passed}note 12.1.3 rules=L from=0-7=10.0.5\n")?;
     expect_check(&rt, SOURCES, &image, &seen, 0, &noted)?;
     let missed = sharing_file(rt.alloc(), 0, 12)?;
-    let failed = format!(in rt.alloc(); "FAIL stamp=12 hart=1 seq=3 reason=12 LoadSource \
+    let failed = format!(in rt.alloc();
+        "FAIL stamp=12 hart=1 seq=3 reason=12 LoadSource \
         expected=0000000000000007 found=0000000000000000\nharts=2 records=9 writes=1\n{HART_0}\
         hart 1 retired=3 traps=0 loads=0 stores=0 atomics=0 drains=0\n\
-        rules L=0 S=0 P=0 I=0 D=0 C=0 Z=0\n")?;
+        rules L=0 S=0 P=0 I=0 D=0 C=0 Z=0\n"
+    )?;
     expect_check(&rt, PASS, &image, &missed, 1, &failed)?;
     let earlier = sharing_file(rt.alloc(), 0, 9)?;
-    let passed = format!(in rt.alloc(); "PASS\nharts=2 records=10 writes=1\n{HART_0}{HART_1}\
-        rules L=0 S=0 P=0 I=0 D=0 C=0 Z=0\n")?;
+    let passed = format!(in rt.alloc();
+        "PASS\nharts=2 records=10 writes=1\n{HART_0}{HART_1}\
+        rules L=0 S=0 P=0 I=0 D=0 C=0 Z=0\n"
+    )?;
     expect_check(&rt, PASS, &image, &earlier, 0, &passed)
 }
 
@@ -112,7 +116,14 @@ fn values_that_are_taken_over_have_their_rules(rt: HostRuntime) -> Result<(), Fa
         expected=0000000000000064 found=0000000000000063\nharts=1 records=1 writes=0\n\
         hart 0 retired=1 traps=0 loads=0 stores=0 atomics=0 drains=0\n\
         rules L=0 S=0 P=0 I=0 D=0 C=1 Z=0\n";
-    expect_check(&rt, PASS, &image, &file_of(rt.alloc(), 1, &records)?, 1, text)?;
+    expect_check(
+        &rt,
+        PASS,
+        &image,
+        &file_of(rt.alloc(), 1, &records)?,
+        1,
+        text,
+    )?;
     // ld x8,0(x0)
     let image = image_of(rt.alloc(), &[0x0000_3403])?;
     let file = file_of(rt.alloc(), 1, &[load(1, 0, 0, 0x0000_3403, 0xabc, 1, 0)])?;

@@ -134,8 +134,10 @@ fn a_file_has_its_report(rt: HostRuntime) -> Result<(), Fail> {
         rules L=0 S=0 P=0 I=0 D=0 C=0 Z=0\n";
     expect_check(&rt, PASS, IMAGE, &file, 0, passed)?;
     let file = file_of(rt.alloc(), 1, &[commit(1, 0, 0, ADDI, 6)])?;
-    let failed = format!(in rt.alloc(); "FAIL stamp=1 hart=0 seq=0 reason=8 Value \
-        expected=0000000000000005 found=0000000000000006\n{NOTHING_COUNTED}")?;
+    let failed = format!(in rt.alloc();
+        "FAIL stamp=1 hart=0 seq=0 reason=8 Value \
+        expected=0000000000000005 found=0000000000000006\n{NOTHING_COUNTED}"
+    )?;
     expect_check(&rt, PASS, IMAGE, &file, 1, &failed)?;
     let empty = format!(in rt.alloc(); "PASS\n{NOTHING_COUNTED}")?;
     expect_check(&rt, PASS, &[], &file_of(rt.alloc(), 1, &[])?, 0, &empty)
@@ -161,7 +163,7 @@ fn a_malformed_file_is_not_judged(rt: HostRuntime) -> Result<(), Fail> {
 fn a_fault_shows_in_status_and_text(rt: HostRuntime) -> Result<(), Fail> {
     let calm = Outside { piece: 20, ..CALM };
     let file = hex::decode(rt.alloc(), FILE)?;
-    for call in 0..7 {
+    for call in 0..4 {
         let outside = Outside {
             probes_fail: call,
             ..calm
