@@ -28,7 +28,7 @@ use Rattle.dt_versions.specs.History.{History, history}
 use Rattle.dt_judge.specs.Grounds.{Grounds, grounds_of}
 use Rattle.dt_judge.specs.Judgement.{Finds, FindsBody}
 use Rattle.dt_judge.specs.Judging.{Meets, are_built}
-use Rattle.dt_judge.specs.Reserving.{reserved_in}
+use Rattle.dt_hart.specs.Reserving.{reserved_in}
 use Rattle.dt_judge.specs.Unfenced.{IsReadIn, Remembers, WasFound, seen_until, unfenced}
 use Rattle.dt_judge.specs.Windows.{covers_page, is_instruction_fence, last_fence, span_from}
 use Rattle.dt_judge.proofs.Fenceless.{OfFences, none_planned, of_instruction_fences, of_page_fences}

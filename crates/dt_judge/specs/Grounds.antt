@@ -6,7 +6,7 @@ use Rattle.dt_step.specs.declared.state.Arch.{Arch}
 use Rattle.dt_versions.specs.declared.moments.Span.{Span}
 use Rattle.dt_checks.specs.declared.fetching.FetchSpans.{FetchSpans}
 use Rattle.dt_hart.specs.Settings.{Setting, arch_of, did}
-use Rattle.dt_judge.specs.Reserving.{reserved_in}
+use Rattle.dt_hart.specs.Reserving.{reserved_in}
 use Rattle.dt_judge.specs.Windows.{window_of, fetch_spans}
 
 -- What a next record is judged on (this project's own): the image and all writes; the reference's state; what the hart

@@ -4,7 +4,6 @@ pub mod Judgement
 pub mod Judging
 pub mod Kinds
 pub mod Laws
-pub mod Reserving
 pub mod Runs
 pub mod Unfenced
 pub mod Windows
