@@ -1,0 +1,4 @@
+pub mod Fences
+pub mod Kept
+pub mod Laws
+pub mod Worked
