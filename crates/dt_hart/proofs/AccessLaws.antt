@@ -22,11 +22,13 @@ use Rattle.dt_reference.specs.Meaning.{meaning_of}
 use Rattle.dt_sources.specs.Knowing.{covering_key}
 use Rattle.dt_stores.specs.declared.answers.DrainAnswer.{DrainAnswer}
 use Rattle.dt_stores.specs.declared.answers.DrainAnswer.TheVariants as answer
-use Rattle.dt_stores.specs.Draining.{drain_answer, OnTook, UnlessOutOfMemory}
+use Rattle.dt_stores.specs.Draining.{drain_answer, OnRefused, OnTook, UnlessOutOfMemory}
 use Rattle.dt_stores.specs.Kept.{Kept}
 use Rattle.dt_stores.specs.Standing.{StandsFor as Keeps, GainsAction}
 use Rattle.dt_hart.specs.declared.accesses.Accesses.{Accesses}
+use Rattle.dt_hart.specs.Counting.{CountsOn}
 use Rattle.dt_hart.specs.Following.{Follows, floor_asked, noted_by, read_by, read_key}
+use Rattle.dt_hart.proofs.Counted.{counts_gained, counts_same}
 use Rattle.dt_hart.proofs.ReadKeys.{greater-none}
 
 -- What records leave of the accesses.
@@ -43,6 +45,14 @@ drain_gains (answer.Few held) old new key line count memory answers took actions
 drain_gains (answer.Barred seq) old new key line count memory answers took actions taken bytes keeps is =
     let no : answer.Barred seq ≡ answer.Took taken bytes = answers actions keeps ∙ is in absurd (cc)
 drain_gains answer.OutOfMemory old new key line count memory answers took actions taken bytes keeps is = absurd (memory refl)
+
+-- and whatever it answers, no more fences are counted
+pub drain_counts : (result : DrainAnswer) (old new : Kept) (key : Key) (line count : ℕ) → OnTook result (GainsAction old new (Drained key line count))
+    → OnRefused result (new ≡ old) → CountsOn old new
+drain_counts (answer.Took mask found) old new key line count took refused = counts_gained old new (Drained key line count) took
+drain_counts (answer.Few held) old new key line count took refused = counts_same old new refused
+drain_counts (answer.Barred seq) old new key line count took refused = counts_same old new refused
+drain_counts answer.OutOfMemory old new key line count took refused = counts_same old new refused
 
 -- a note of one key gives it to each byte of the mask
 pub noted_same : (line mask : ℕ) (key : Key) (byte : ℕ) → noted_key line mask (replicate 64 key) byte ≡ (if is_noted line mask byte then Some key else None)

@@ -1,4 +1,4 @@
-use Rattle.std.proofs.Common.{ℕ, ◌≡◌, ◌+◌, ◌-◌, ◌*◌, ◌^◌, ◌%◌, ◌<◌, ◌≤◌, ◌==◌, ◌⊎◌, ◌&&◌, nat_lt, nat_le, Bool, true, false, Option, Some, None, List, [], ◌∷◌, ◌++◌, length, filter, take, zero, suc, refl, sym, ap, ◌∙◌, subst, inl, inr, IsTrue, arith, suc-mul}
+use Rattle.std.proofs.Common.{ℕ, ◌≡◌, ◌+◌, ◌-◌, ◌*◌, ◌^◌, ◌%◌, ◌<◌, ◌≤◌, ◌==◌, ◌⊎◌, ◌&&◌, ◌||◌, nat_lt, nat_le, Bool, true, false, Option, Some, None, List, [], ◌∷◌, length, filter, take, zero, suc, refl, sym, ap, ◌∙◌, subst, inl, inr, IsTrue, arith, suc-mul}
 use Rattle.std.specs.Prelude.{reverse}
 use Rattle.std.specs.Int.{bit_at}
 use Rattle.std.specs.List.{find, list_all}

@@ -46,5 +46,5 @@ pub windows_after : (s : Setting) (r : Record) (moment : ℕ) (a : Arch) (seq fi
     → FollowsFences old new a seq r first → IsFirstSeen s r first → KeepsFences old s.writes (fences_of s) → KeepsFences new s.writes (fences_of (after s r moment))
 windows_after s r moment a seq first old new arch count follows is_first keeps =
     let its : FollowsFences old new (arch_of s) (length s.before) r first =
-        subst (λ (b : Arch). FollowsFences old new b (length s.before) r first) arch (subst (λ n. FollowsFences old new a n r first) count follows) in
+    subst (λ (b : Arch). FollowsFences old new b (length s.before) r first) arch (subst (λ n. FollowsFences old new a n r first) count follows) in
     subst (λ (l : List Fence). KeepsFences new s.writes l) (sym (fences_after s r moment)) (its s.writes (fences_of s) is_first keeps)

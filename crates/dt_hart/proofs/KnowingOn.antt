@@ -116,7 +116,7 @@ idle_known : KnowingGoesOn → (old new : LocalMemory) (s : Setting) (r : Record
     → Notes old new s r sources → IsIdle (key_in s r) r.body → KnowsAfter new s r moment
 idle_known laws old new s r g sources moment knows notes idle =
     let same : (byte : ℕ) → newest_of new byte ≡ newest_of old byte =
-        λ byte. notes byte ∙ ap (greater (newest_of old byte)) (notes_read s r sources byte idle.write ∙ idle.read sources byte) ∙ greater-none (newest_of old byte) in
+    λ byte. notes byte ∙ ap (greater (newest_of old byte)) (notes_read s r sources byte idle.write ∙ idle.read sources byte) ∙ greater-none (newest_of old byte) in
     let after = laws.other_record old s.writes (did s) s.moments (key_in s r) (key_after s r) knows (is_its s r g) (after_rises s r g) (only_earlier s r g idle.write) in
     rw idle.action
     (subst (λ (l : List Action). Knows new s.writes l s.moments (key_after s r)) (sym (append-nil (did s)))
@@ -163,8 +163,11 @@ load_known laws added old new s r g sources moment knows notes load read =
 abbrev its_reads : {body : Body} → IsAtomic body → Bool
 its_reads x = reads_memory (meaning_of x.retire.bits)
 
+abbrev its_acquires : {body : Body} → IsAtomic body → Bool
+its_acquires x = acquires (meaning_of x.retire.bits) x.wrote
+
 abbrev its_action : {body : Body} → Key → IsAtomic body → Action
-its_action key x = Accessed key x.paddr x.width (its_reads x) (acquires (meaning_of x.retire.bits) x.wrote)
+its_action key x = Accessed key x.paddr x.width (its_reads x) (its_acquires x)
 
 atomic_known : KnowingGoesOn → NotesAreAdded → (old new : LocalMemory) (s : Setting) (r : Record) (g : GoesOn s r) (sources : Sources) (moment : ℕ) → Knows old s.writes (did s) s.moments (key_in s r)
     → Notes old new s r sources → (x : IsAtomic r.body) → IsTrue (is_atomic_place x.paddr x.width)
@@ -175,14 +178,14 @@ atomic_known laws added old new s r g sources moment knows notes x placed read =
       let makes : write_of_record (length s.before) r ≡ Some w = rw (x.is, wrote) refl in
       rw x.is
       (writer_known laws added old new s r g sources (its_action (key_in s r) x) w knows notes makes refl
-      (λ byte. own_is_greater s.writes (did s) (s.moments (length (did s))) (key_in s r) x.paddr x.width x.new (its_reads x) _ byte g.in_order placed))
+      (λ byte. own_is_greater s.writes (did s) (s.moments (length (did s))) (key_in s r) x.paddr x.width x.new (its_reads x) (its_acquires x) byte g.in_order placed))
   | inr quiet ↦
       let none : write_of_record (length s.before) r ≡ None = rw (x.is, quiet) refl in
       let its : (byte : ℕ) → read_by r.body sources byte ≡ (if its_reads x then read_key x.paddr (take x.width sources.from) byte else None) = λ byte. rw x.is refl in
       rw x.is
       (reader_known laws added old new s r g sources s.moments (its_action (key_in s r) x) knows notes none
       (λ place within. refl)
-      (λ byte. its byte ∙ atomic_origins s.writes (did s) (s.moments (length (did s))) (key_in s r) x.paddr x.width (its_reads x) _ sources read byte))
+      (λ byte. its byte ∙ atomic_origins s.writes (did s) (s.moments (length (did s))) (key_in s r) x.paddr x.width (its_reads x) (its_acquires x) sources read byte))
 ]
 
 -- the write of a drain

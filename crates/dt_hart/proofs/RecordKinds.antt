@@ -15,7 +15,6 @@ use Rattle.dt_record.specs.Lawful.{is_in_ram}
 use Rattle.dt_record.specs.Writes.{body_write}
 use Rattle.dt_reference.specs.HartActions.{body_action, commit_action, width_of}
 use Rattle.dt_reference.specs.Meaning.{meaning_of}
-use Rattle.dt_step.specs.Plans.{has_reads, has_writes, is_tso}
 use Rattle.dt_hart.specs.Following.{read_by, read_key}
 
 -- The records by what they do.

@@ -1,4 +1,4 @@
-use Rattle.std.specs.Prelude.{ℕ, ◌+◌, Option, None, Some, option_map, option_to_list, List, [], ◌∷◌, ◌++◌}
+use Rattle.std.specs.Prelude.{ℕ, ◌+◌, Bool, true, false, if◌then◌else◌, Option, None, Some, option_map, option_to_list, List, [], ◌∷◌, ◌++◌}
 use Rattle.dt_decode.specs.declared.instructions.Instr.{Instr}
 use Rattle.dt_decode.specs.declared.instructions.Instr.TheVariants.{Fence as FenceOf, FenceI, SfenceVma}
 use Rattle.dt_record.specs.declared.records.Record.{Record}
@@ -39,12 +39,18 @@ fences_from a seq (r ∷ rs) = option_to_list (fence_by a seq r) ++ fences_from 
 abbrev pub fences_of : Setting → List Fence
 fences_of s = fences_from (start_of s.hart s.wide) 0 s.before
 
--- what a fence of any kind planned, FENCE too (Volume I, section 2.7)
-abbrev pub ordering_plan : Arch → (bits : ℕ) → Option Instr → Option Planned
-ordering_plan a bits (Some (FenceOf fm pred succ)) = Some (plan_of a (FenceOf fm pred succ) bits)
-ordering_plan a bits instr = fence_plan a bits instr
+-- a fence of any kind: FENCE (Volume I, section 2.7) and those two
+abbrev pub is_ordering : Instr → Bool
+is_ordering (FenceOf fm pred succ) = true
+is_ordering FenceI = true
+is_ordering (SfenceVma rs1 rs2) = true
+is_ordering instr = false
 
--- where a commit retired one
+abbrev pub ordering_plan : Arch → (bits : ℕ) → Option Instr → Option Planned
+ordering_plan a bits (Some instr) = if is_ordering instr then Some (plan_of a instr bits) else None
+ordering_plan a bits None = None
+
+-- what a fence of any kind planned, where a commit in this state retired one
 abbrev pub ordering_in : Arch → Body → Option Planned
 ordering_in a (Commit retire) = ordering_plan a retire.bits (meaning_of retire.bits)
 ordering_in a body = None

@@ -73,7 +73,14 @@ impl Accesses {
                 ..
             } => {
                 let order = order_of(retire.bits, wrote);
-                self.take_atomic(key.stamp, order, write_of(event, seq), paddr, width, sources)
+                self.take_atomic(
+                    key.stamp,
+                    order,
+                    write_of(event, seq),
+                    paddr,
+                    width,
+                    sources,
+                )
             }
             Body::Drain {
                 line,

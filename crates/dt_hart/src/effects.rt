@@ -4,7 +4,7 @@ ghost use Rattle.dt_record.specs.Lawful.{IsLawful};
 ghost use Rattle.dt_reference.specs.HartActions.{action_of};
 ghost use Rattle.dt_step.specs.State.{IsArch};
 ghost use Rattle.dt_hart.specs.Counting.{IsCounted};
-ghost use Rattle.dt_hart.specs.Fences.{ordering_in};
+ghost use Rattle.dt_hart.specs.Fences.{is_ordering, ordering_in};
 ghost use Rattle.dt_hart.specs.Following.{Follows, FollowsFences, IsKept};
 ghost use Rattle.dt_hart.specs.Taking.{is_placed};
 
@@ -38,29 +38,38 @@ pub fn take_effects(
     ensures unchanged { OnErr result (IsKept accesses.old accesses.new) }
     ensures windows_unchanged { OnErr result (windows.new ≡ windows.old) }
 {
-    match fence_plan(a, event) {
-        Some(Planned::Fences { ww, wr, rr }) => {
-            accesses.take_fence(ww, wr, rr);
-            Ok(())
-        }
-        Some(fence) => windows.take(fence, first),
+    match ordering_plan(a, event) {
         None => accesses.take(seq, event, sources),
+        Some(fence) => match fence {
+            Planned::Fences { ww, wr, rr } => {
+                accesses.take_fence(ww, wr, rr);
+                Ok(())
+            }
+            _ => windows.take(fence, first),
+        },
     }
 }
 
 /// The plan of the fence that the record retires, if it retires one.
-fn fence_plan(a: &Arch, event: &Record) -> Option<Planned>
+fn ordering_plan(a: &Arch, event: &Record) -> Option<Planned>
     requires arch { IsArch a.now }
     requires lawful { IsLawful event.now }
     ensures { result ≡ ordering_in a.now event.now.body }
 {
     match event.body {
         Body::Commit { retire } => match meaning(retire.bits) {
-            Some(fence @ (Instr::Fence { .. } | Instr::FenceI | Instr::SfenceVma { .. })) => {
-                Some(plan(a, fence, retire.bits))
-            }
+            Some(i) if is_ordering(i) => Some(plan(a, i, retire.bits)),
             _ => None,
         },
         _ => None,
     }
+}
+
+fn is_ordering(i: Instr) -> bool
+    ensures { result ≡ is_ordering i }
+{
+    matches!(
+        &i,
+        Instr::Fence { .. } | Instr::FenceI | Instr::SfenceVma { .. }
+    )
 }

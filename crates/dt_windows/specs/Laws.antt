@@ -21,7 +21,7 @@ abbrev pub OtherPlansKeepWindows : Type 0
 OtherPlansKeepWindows = (w : WindowsView) (writes : List Write) (fences : List Fence) (plan : Planned) (key : Key)
     → is_fence plan ≡ false → StandsFor w writes fences → StandsFor w writes (fences ++ fence_at plan key ∷ [])
 
--- there is a moment from an earlier fence of a hart to one of its records
+-- there is a moment from a fence to a later record
 abbrev pub SpansHaveMoments : Type 0
-SpansHaveMoments = (writes : List Write) (key fence : Key) → IsTrue (are_in_order writes) → fence.hart ≡ key.hart → KeyBelow fence key
+SpansHaveMoments = (writes : List Write) (key fence : Key) → IsTrue (are_in_order writes) → KeyBelow fence key
     → (span_since writes key (Some fence)).first ≤ (span_since writes key (Some fence)).last

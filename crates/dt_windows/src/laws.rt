@@ -13,7 +13,7 @@ pub fn other_plans_keep_windows()
     ensures { OtherPlansKeepWindows }
 {}
 
-/// The span from an earlier fence of the hart to a record is never empty.
+/// The span from a fence to a later record is never empty.
 pub fn spans_have_moments()
     ensures { SpansHaveMoments }
 {
