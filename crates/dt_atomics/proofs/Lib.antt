@@ -1,0 +1,7 @@
+mod CheckSteps
+mod FilledSources
+mod FirstWrites
+mod NewerSources
+mod OldNumbers
+mod OneAnswer
+mod Places
