@@ -22,6 +22,7 @@ use Rattle.dt_hart.specs.Taking.{IsFirstSeen, IsRead, WasJudged}
 use Rattle.dt_loads.specs.declared.reading.Passed.{Passed}
 use Rattle.dt_local.specs.LocalMemory.{local_memory}
 use Rattle.dt_rules.specs.declared.misfits.Misfit.{Misfit}
+use Rattle.dt_versions.specs.declared.moments.Span.{Span}
 use Rattle.dt_versions.specs.History.{History, history}
 use Rattle.dt_versions.specs.Spans.{first_visible, last_visible}
 use Rattle.dt_judge.specs.Grounds.{Grounds, grounds_of, window_of}
@@ -44,10 +45,10 @@ is_settled : (h : HartView) (m : History) (s : Setting) (r : Record) (meets : Me
 is_settled h m s r meets = λ i. record s { image = meets.image i; writes = meets.writes i }
 
 -- what a body is found to be, whatever the hart did
-abbrev pub FoundAs : HartView → History → (seq : ℕ) → Record → Result Passed Misfit → Type 0
-FoundAs h m seq r f =
+abbrev pub FoundAs : HartView → History → (seq last : ℕ) → Record → Result Passed Misfit → Type 0
+FoundAs h m seq last r f =
     (actions : List Action) (moments : ℕ → ℕ) → Remembers h m.writes (key_of seq r) actions moments
-    → FindsBody (grounds_kept h m (seen_by m.writes (key_of seq r)).last actions moments) (key_of seq r) r.body f
+    → FindsBody (grounds_kept h m last actions moments) (key_of seq r) r.body f
 
 abbrev pub FoundOf : HartView → History → (seq : ℕ) → Record → Sources → Type 0
 FoundOf h m seq r sources =
@@ -122,9 +123,10 @@ module _ (laws : Laws) (h : HartView) (m : History) (s : Setting) (r : Record) (
         judged = judged_less m.writes meets.later r.stamp meets.after (did s) s.moments same_origins (key_in s r) (omega arith) known.judged;
       }
 
-  pub finds : (seq : ℕ) (f : Result Passed Misfit) → IsTrue (is_lawful r) → seq ≡ h.seq → FoundAs h m seq r f → Finds s r f
-  finds seq f lawful is found =
-      let its : FoundAs h m (length s.before) r f = subst (λ n. FoundAs h m n r f) (is ∙ meets.stands.seq) found in
+  pub finds : (seq : ℕ) (seen : Span) (f : Result Passed Misfit) → IsTrue (is_lawful r) → seq ≡ h.seq → seen ≡ seen_by m.writes (key_of seq r) → FoundAs h m seq seen.last r f → Finds s r f
+  finds seq seen f lawful is saw found =
+      let here : FoundAs h m seq (seen_by m.writes (key_of seq r)).last r f = subst (λ (span : Span). FoundAs h m seq span.last r f) saw found in
+      let its : FoundAs h m (length s.before) end r f = subst (λ n. FoundAs h m n (seen_by m.writes (key_of n r)).last r f) (is ∙ meets.stands.seq) here in
       let few = its (did s) s.moments remembers in
       let more =
       finds_more laws.checks h m meets.later r.stamp meets.after end (last_within m.writes meets.later r.stamp meets.after (key_in s r) r.stamp) (did s) s.moments same_origins (key_in s r) r.body f
@@ -154,13 +156,13 @@ module _ (laws : Laws) (h : HartView) (m : History) (s : Setting) (r : Record) (
       (λ plan. sym (first_same m.writes meets.later r.stamp meets.after (key_in s r) r.stamp (omega arith)))
 
   -- the record was judged, at some moment
-  pub was_judged : (seq first : ℕ) (sources : Sources) → IsTrue (is_lawful r) → seq ≡ h.seq → first ≡ (seen_by m.writes (key_of seq r)).first → FoundOf h m seq r sources
-      → (moment : ℕ) × WasJudged s r moment sources first
-  was_judged seq first sources lawful is begins found =
+  pub was_judged : (seq : ℕ) (seen : Span) (sources : Sources) → IsTrue (is_lawful r) → seq ≡ h.seq → seen ≡ seen_by m.writes (key_of seq r) → FoundOf h m seq r sources
+      → (moment : ℕ) × WasJudged s r moment sources seen.first
+  was_judged seq seen sources lawful is saw found =
       let its : FoundOf h m (length s.before) r sources = subst (λ n. FoundOf h m n r sources) (is ∙ meets.stands.seq) found in
-      let least : first ≡ (seen_by m.writes (key_in s r)).first = subst (λ n. first ≡ (seen_by m.writes (key_of n r)).first) (is ∙ meets.stands.seq) begins in
+      let least : seen ≡ seen_by m.writes (key_in s r) = subst (λ n. seen ≡ seen_by m.writes (key_of n r)) (is ∙ meets.stands.seq) saw in
       let all = its (did s) s.moments remembers in
       let read = read_action (does s r) sources (record_seen (length s.before) r lawful) all.is_read in
-      let judged : WasJudged there r read.0 sources first =
-      record { is_read = read.1; is_drained = all.is_drained; is_first = subst (λ n. IsFirstSeen there r n) (sym least) first_seen } in
-      (read.0, subst (λ (x : Setting). WasJudged x r read.0 sources first) (sym (is_settled h m s r meets)) judged)
+      let judged : WasJudged there r read.0 sources seen.first =
+      record { is_read = read.1; is_drained = all.is_drained; is_first = subst (λ (span : Span). IsFirstSeen there r span.first) (sym least) first_seen } in
+      (read.0, subst (λ (x : Setting). WasJudged x r read.0 sources seen.first) (sym (is_settled h m s r meets)) judged)

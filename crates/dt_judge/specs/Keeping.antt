@@ -1,4 +1,5 @@
 use Rattle.std.specs.Prelude.{ℕ, ◌≡◌, None, Some, Option, List, IsTrue}
+use Rattle.std.specs.Option.{unwrap_or}
 use Rattle.dt_alu.specs.Words.{sum_of}
 use Rattle.dt_record.specs.declared.accesses.LoadAsk.{LoadAsk}
 use Rattle.dt_record.specs.declared.keys.Key.{Key}
@@ -20,6 +21,8 @@ use Rattle.dt_sources.specs.Knowing.{AreJudged, Knows}
 use Rattle.dt_step.specs.declared.plans.Planned.{Planned}
 use Rattle.dt_step.specs.declared.plans.Planned.TheVariants.{NeedsLoad, NeedsStore, NeedsAtomic}
 use Rattle.dt_stores.specs.Standing.{StandsFor as Keeps}
+use Rattle.dt_traps.specs.declared.traps.TrapSpans.{TrapSpans}
+use Rattle.dt_traps.specs.Instructions.{access_address}
 use Rattle.dt_versions.specs.declared.moments.Span.{Span}
 use Rattle.dt_versions.specs.History.{History}
 use Rattle.dt_windows.specs.Kept.{page_moment}
@@ -41,6 +44,10 @@ fetch_kept h last = record {
   second = window_kept h last (sum_of 64 h.arch.pc 2);
   since = span_of h.windows.instructions last;
 }
+
+-- the moments for a trap: of the fetch, and of the page that its instruction accesses, if it accesses one
+abbrev pub trap_kept : HartView → (last : ℕ) → (bits : ℕ) → TrapSpans
+trap_kept h last bits = record { fetch = fetch_kept h last; access = window_kept h last (unwrap_or (access_address h.arch bits) 0) }
 
 -- the grounds of such a record, where its hart did these actions
 abbrev pub grounds_kept : HartView → History → (last : ℕ) → List Action → (ℕ → ℕ) → Grounds

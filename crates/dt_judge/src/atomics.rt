@@ -44,13 +44,7 @@ fn access_of(op: AtomicOp) -> Access
 }
 
 /// An atomic at an allowed address. `p` is whether its fetch or its address is older.
-fn at_address(
-    h: &Hart,
-    m: &Moments,
-    p: bool,
-    key: Key,
-    x: AtomicAccess,
-) -> Result<Passed, Misfit>
+fn at_address(h: &Hart, m: &Moments, p: bool, key: Key, x: AtomicAccess) -> Result<Passed, Misfit>
     requires { IsTrue (is_atomic_place x.paddr x.width) }
     ensures finds { (last : ℕ) (actions : List Action) (moments : ℕ → ℕ) → Remembers h.now m.now.writes key actions moments → Accesses (grounds_kept h.now m.now last actions moments) key p x result }
     ensures read { IfOk result (λ passed. (actions : List Action) (moments : ℕ → ℕ) → Remembers h.now m.now.writes key actions moments → IsTrue (reads x.op) → ReadsAtKey m.now.writes key x.paddr x.said_width passed.sources) }

@@ -10,10 +10,11 @@ ghost use Rattle.dt_refills.specs.Refilling.{refill_check};
 ghost use Rattle.dt_rules.specs.Checks.{and_then};
 ghost use Rattle.dt_stores.specs.Draining.{drain_answer};
 ghost use Rattle.dt_stores.specs.Standing.{StandsFor as Keeps};
-ghost use Rattle.dt_judge.specs.Keeping.{IsPlacedBy, grounds_kept};
+ghost use Rattle.dt_traps.specs.Traps.{trap_check};
+ghost use Rattle.dt_judge.specs.Keeping.{IsPlacedBy, grounds_kept, trap_kept};
 ghost use Rattle.dt_judge.specs.Kinds.{commit_finding, fine, store_finding, stored, trap_finding, with_p};
 
-use crate::spans::{accessed, fetch_spans, started, window};
+use crate::spans::{accessed, started, trap_spans};
 use dt_checks::Started;
 use dt_commits::{commit_value, undrained};
 use dt_drains::{drains, store_data};
@@ -23,7 +24,6 @@ use dt_record::{Key, Letters, Retire};
 use dt_rules::{Misfit, NO_LETTERS, NO_SOURCES};
 use dt_step::Planned;
 use dt_stores::DrainAnswer;
-use dt_traps::{TrapSpans, access_address};
 use dt_versions::{Moments, Span};
 use dt_walk::Access;
 
@@ -73,6 +73,24 @@ pub fn commit(h: &Hart, m: &Moments, last: u32, key: Key, retire: Retire) -> Res
     })
 }
 
+/// The checks of a trap, where it may see no later moment than this last one.
+fn trapped(
+    h: &Hart,
+    m: &Moments,
+    last: u32,
+    pc: u64,
+    bits: u32,
+    cause: u64,
+    tval: u64,
+) -> Result<Letters, Misfit>
+    requires within { last ≤ length m.now.writes }
+    requires bits { IsTrue (are_trap_bits bits cause) }
+    ensures { result ≡ trap_check m.now.image m.now.writes (trap_kept h.now last bits) h.now.arch pc bits cause tval }
+{
+    let spans = trap_spans(h, last, bits);
+    dt_traps::trap(m, spans, h.arch(), pc, bits, cause, tval)
+}
+
 pub fn trap(
     h: &Hart,
     m: &Moments,
@@ -86,12 +104,7 @@ pub fn trap(
     requires bits { IsTrue (are_trap_bits bits cause) }
     ensures { (actions : List Action) (moments : ℕ → ℕ) → result ≡ trap_finding (grounds_kept h.now m.now last actions moments) pc bits cause tval }
 {
-    let va = access_address(h.arch(), bits).unwrap_or(0);
-    let spans = TrapSpans {
-        fetch: fetch_spans(h, last),
-        access: window(h, last, va),
-    };
-    let letters = dt_traps::trap(m, spans, h.arch(), pc, bits, cause, tval)?;
+    let letters = trapped(h, m, last, pc, bits, cause, tval)?;
     Ok(Passed {
         letters,
         sources: NO_SOURCES,

@@ -12,6 +12,6 @@ mod spans;
 #[cfg(test)]
 mod tests;
 
-pub use dt_hart::{Hart, is_built};
+pub use dt_hart::Hart;
 pub use judging::{Judged, judge};
 pub use laws::{earlier_moments_decide, records_have_one_finding, runs_have_one_end};

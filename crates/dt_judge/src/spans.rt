@@ -4,13 +4,14 @@ ghost use Rattle.dt_checks.specs.Retiring.{IsRetired};
 ghost use Rattle.dt_checks.specs.Starting.{start_check};
 ghost use Rattle.dt_checks.specs.Translating.{walk_args};
 ghost use Rattle.dt_record.specs.Lawful.{is_instruction};
-ghost use Rattle.dt_judge.specs.Keeping.{fetch_kept, window_kept};
+ghost use Rattle.dt_judge.specs.Keeping.{fetch_kept, trap_kept, window_kept};
 ghost use Rattle.dt_judge.specs.Kinds.{seen_by};
 
 use dt_checks::{FetchSpans, Started, address, start, walk_args};
 use dt_hart::Hart;
 use dt_record::Key;
 use dt_rules::Misfit;
+use dt_traps::{TrapSpans, access_address};
 use dt_versions::{Moments, Span};
 use dt_walk::Access;
 
@@ -23,7 +24,7 @@ pub fn seen_by(m: &Moments, key: Key) -> Span
 }
 
 /// The moments up to a last one whose translation of an address the hart may use.
-pub fn window(h: &Hart, last: u32, va: u64) -> Span
+fn window(h: &Hart, last: u32, va: u64) -> Span
     ensures { result ≡ window_kept h.now last va }
 {
     Span {
@@ -33,7 +34,7 @@ pub fn window(h: &Hart, last: u32, va: u64) -> Span
 }
 
 /// The moments up to a last one for the halves of the instruction at the hart's pc.
-pub fn fetch_spans(h: &Hart, last: u32) -> FetchSpans
+fn fetch_spans(h: &Hart, last: u32) -> FetchSpans
     ensures { result ≡ fetch_kept h.now last }
 {
     let pc = h.arch().pc;
@@ -44,6 +45,18 @@ pub fn fetch_spans(h: &Hart, last: u32) -> FetchSpans
             first: h.windows().instructions(),
             last,
         },
+    }
+}
+
+/// The moments up to a last one for a trap of the instruction with these bits: of its fetch, and of
+/// the page that it accesses, or of any page where it accesses none.
+pub fn trap_spans(h: &Hart, last: u32, bits: u32) -> TrapSpans
+    ensures { result ≡ trap_kept h.now last bits }
+{
+    let va = access_address(h.arch(), bits).unwrap_or(0);
+    TrapSpans {
+        fetch: fetch_spans(h, last),
+        access: window(h, last, va),
     }
 }
 

@@ -42,8 +42,8 @@ returns-clause-finds c = λ last actions moments known.
 pub returns-clause-read : goal.returns-clause-read
 returns-clause-read c =
     let answered : IsAnswered c.args.h.now c.args.m.now c.args.key c.args.x c.atomic.result = λ actions moments known.
-        let knows = same_knowing c.local.result.now c.args.h.now.keys c.args.m.now.writes actions moments c.args.key c.local.ensures known.knows in
-        let stores = subst (λ (k : Kept). Keeps k actions) (sym c.stores.ensures) known.stores in
-        subst (λ (r : Option (ℕ × Key)). IsAtomicAnswer (atomic_grounds c.args.m.now actions moments r) c.args.key c.args.x c.atomic.result) c.reserved.ensures (c.atomic.ensures actions moments stores knows) in
+    let knows = same_knowing c.local.result.now c.args.h.now.keys c.args.m.now.writes actions moments c.args.key c.local.ensures known.knows in
+    let stores = subst (λ (k : Kept). Keeps k actions) (sym c.stores.ensures) known.stores in
+    subst (λ (r : Option (ℕ × Key)). IsAtomicAnswer (atomic_grounds c.args.m.now actions moments r) c.args.key c.args.x c.atomic.result) c.reserved.ensures (c.atomic.ensures actions moments stores knows) in
     sources_stay (Reads c.args.h.now c.args.m.now c.args.key c.args.x) c.args.p c.atomic.result c.with_p.result c.with_p.ensures.value
     (read_where_allowed c.args.h.now c.args.m.now c.args.key c.args.x c.atomic.result answered)

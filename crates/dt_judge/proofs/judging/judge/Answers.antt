@@ -1,13 +1,56 @@
-use Rattle.std.proofs.Common.{Ok, Err, ap}
-use Rattle.dt_versions.specs.declared.moments.Span.{Span}
+use Rattle.std.proofs.Common.{Ok, Err}
 use Rattle.dt_judge.proofs.Meeting.{Laws, finds, was_judged}
 use Rattle.dt_judge.proofs.judging.judge.Goals as goal
 
 pub returns-in-Ok-take-clause-judged : goal.returns-in-Ok-take-clause-judged
-returns-in-Ok-take-clause-judged c = λ s meets. ?
+returns-in-Ok-take-clause-judged c = λ s meets.
+    let checks = c.first_writes_decide_checks.ensures in
+    let laws : Laws = record {
+      known = c.known_at_next.ensures;
+      checks = record {
+        starts = checks.starts;
+        addresses = checks.addresses;
+        traps = c.first_writes_decide_traps.ensures;
+        atomics = c.first_writes_decide_atomics.ensures;
+        refills = c.first_writes_decide_refills.ensures;
+      };
+    } in
+    finds laws c.args.h.now c.args.m.now s c.args.event.now meets c.seq.result c.seen_by-seen.result (Ok c.in-Ok.passed) c.requires.lawful c.seq.ensures c.seen_by-seen.ensures.value
+    c.in-Ok.ensures.finds
 
 pub returns-in-Ok-take-clause-goes_on : goal.returns-in-Ok-take-clause-goes_on
-returns-in-Ok-take-clause-goes_on c = λ s meets. ?
+returns-in-Ok-take-clause-goes_on c = λ s meets.
+    let checks = c.first_writes_decide_checks.ensures in
+    let laws : Laws = record {
+      known = c.known_at_next.ensures;
+      checks = record {
+        starts = checks.starts;
+        addresses = checks.addresses;
+        traps = c.first_writes_decide_traps.ensures;
+        atomics = c.first_writes_decide_atomics.ensures;
+        refills = c.first_writes_decide_refills.ensures;
+      };
+    } in
+    let judged = was_judged laws c.args.h.now c.args.m.now s c.args.event.now meets c.seq.result c.seen_by-seen.result c.in-Ok.passed.sources c.requires.lawful c.seq.ensures
+    c.seen_by-seen.ensures.value c.in-Ok.ensures.found in
+    record {
+      moment = judged.0;
+      is_read = judged.1.is_read;
+      stands = c.in-Ok-take.ensures.goes_on s judged.0 meets.stands meets.goes_on judged.1;
+    }
 
 pub returns-in-Err-clause-judged : goal.returns-in-Err-clause-judged
-returns-in-Err-clause-judged c = λ s meets. ?
+returns-in-Err-clause-judged c = λ s meets.
+    let checks = c.first_writes_decide_checks.ensures in
+    let laws : Laws = record {
+      known = c.known_at_next.ensures;
+      checks = record {
+        starts = checks.starts;
+        addresses = checks.addresses;
+        traps = c.first_writes_decide_traps.ensures;
+        atomics = c.first_writes_decide_atomics.ensures;
+        refills = c.first_writes_decide_refills.ensures;
+      };
+    } in
+    finds laws c.args.h.now c.args.m.now s c.args.event.now meets c.seq.result c.seen_by-seen.result (Err c.in-Err.refused) c.requires.lawful c.seq.ensures c.seen_by-seen.ensures.value
+    c.in-Err.ensures.finds
