@@ -2,8 +2,8 @@ ghost use Rattle.std.specs.Prelude.{IsTrue};
 ghost use Rattle.dt_record.specs.Lawful.{is_atomic_place};
 
 use crate::{
-    AtomicAccess, AtomicOp, Misfit, Passed, atomic, atomics_have_one_answer,
-    first_writes_decide_atomics,
+    AtomicAccess, AtomicOp, Misfit, Passed, allowed_atomics_are_exact, atomic,
+    atomics_have_one_answer, first_writes_decide_atomics,
 };
 use dt_alu::AmoOp;
 use dt_local::Local;
@@ -132,6 +132,7 @@ fn an_sc_and_another_harts_write(rt: HostRuntime) -> Result<(), Fail> {
     let alloc = rt.alloc();
     atomics_have_one_answer();
     first_writes_decide_atomics();
+    allowed_atomics_are_exact();
     let alone = nothing_written(alloc);
     assert_eq!(rt; sc(alloc, &alone, 0, true), Ok(PLAIN));
     assert_eq!(rt; sc(alloc, &alone, 1, false), Ok(SETTLED));
