@@ -2,7 +2,7 @@ use Rattle.std.proofs.Common.{List, ◌++◌, refl, sym, subst, IsTrue, arith}
 use Rattle.std.specs.Option.{option_to_list}
 use Rattle.std.proofs.lemmas.List.{append-nil}
 use Rattle.dt_record.specs.declared.records.Record.{Record}
-use Rattle.dt_record.specs.Actions.{Action, Loaded}
+use Rattle.dt_record.specs.Actions.{Action, Fenced, Loaded}
 use Rattle.dt_sources.specs.Knowing.{AreJudged, KnowingGoesOn}
 use Rattle.dt_stores.specs.Places.{is_store_place}
 use Rattle.dt_judged.specs.GoingOn.{IsOnward, IsNewNumber, IsAllowedDrain, JudgedGoesOn}
@@ -11,7 +11,7 @@ use Rattle.dt_hart.specs.OwnWrites.{GoesOn}
 use Rattle.dt_hart.specs.Settings.{Setting, did, does, key_in, next_key}
 use Rattle.dt_hart.specs.Standing.{StandsFor, KnowsAtNext}
 use Rattle.dt_hart.specs.Taking.{is_placed, IsDrained}
-use Rattle.dt_hart.proofs.BuiltKinds.{Kind, Idle, Loads, Stores, Drains, IsStore, IsDrain}
+use Rattle.dt_hart.proofs.RecordKinds.{Kind, Idle, Loads, Stores, Fences, Atomics, Drains, IsStore, IsDrain}
 use Rattle.dt_hart.proofs.Earlier.{key_after, is_its, next_rises, after_rises, next_below_after}
 use Rattle.dt_hart.proofs.KnowingOn.{known_next, drain_write, drain_wrote}
 use Rattle.dt_hart.proofs.OwnKeys.{write_is_there}
@@ -56,6 +56,10 @@ judged_after laws h s r g stands drained placed (Loads load) =
 judged_after laws h s r g stands drained placed (Stores store) =
     let place : IsTrue (is_store_place store.store) = rw store.action at placed in
     rw store.action (laws.stored h.stores s.writes (did s) store.store (key_in s r) (key_after s r) stands.stores (judged_next laws h s r stands g) (onward s r g) place (new_number s r store))
+judged_after laws h s r g stands drained placed (Fences f) =
+    rw f.action (laws.quiet s.writes (did s) (Fenced f.ww f.wr f.rr) (key_in s r) (key_after s r) (judged_next laws h s r stands g) (onward s r g) refl)
+judged_after laws h s r g stands drained placed (Atomics x) =
+    rw x.is (laws.quiet s.writes (did s) _ (key_in s r) (key_after s r) (judged_next laws h s r stands g) (onward s r g) refl)
 judged_after laws h s r g stands drained placed (Drains d) =
     let allowed = allowed_drain s r g d drained in
     rw d.is (laws.drained h.stores s.writes (did s) d.line d.count (key_in s r) (key_after s r) stands.stores (judged_next laws h s r stands g) (onward s r g) (next_below_after s r g) allowed)

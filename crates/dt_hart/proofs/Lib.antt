@@ -1,7 +1,10 @@
 mod AccessLaws
+mod AtomicSources
 mod Bits
-mod BuiltKinds
+mod Counted
 mod Earlier
+mod EffectLaws
+mod FencesOn
 mod Floors
 mod GoingOn
 mod JudgedOn
@@ -9,5 +12,6 @@ mod KnowingOn
 mod Members
 mod OwnKeys
 mod ReadKeys
+mod RecordKinds
 mod SameHart
 mod StoreNumbers

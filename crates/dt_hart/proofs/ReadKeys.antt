@@ -12,12 +12,16 @@ use Rattle.dt_record.specs.declared.keys.Key.{Key}
 use Rattle.dt_record.specs.declared.origins.Origin.{Origin}
 use Rattle.dt_record.specs.declared.origins.Origin.TheVariants as origin
 use Rattle.dt_record.specs.Memory.{line_of}
-use Rattle.dt_local.specs.LocalMemory.{noted_key}
+use Rattle.dt_local.specs.LocalMemory.{greater, noted_key}
 use Rattle.dt_sources.specs.Knowing.{write_key}
 use Rattle.dt_hart.specs.Following.{read_key}
 use Rattle.dt_hart.proofs.Members.{slice_get-append_left, slice_get-append_seam}
 
 -- The keys of the writes that a load's bytes came from.
+
+pub greater-none : (o : Option Key) → greater o None ≡ o
+greater-none None = refl
+greater-none (Some key) = refl
 
 pub read_key-below : (place : ℕ) (from : List Origin) (at : ℕ) → at < place → read_key place from at ≡ None
 read_key-below place from at below = grind (arith, nat_tests)

@@ -1,11 +1,13 @@
-use Rattle.std.specs.Prelude.{ℕ, List}
+use Rattle.std.specs.Prelude.{ℕ, Option, List}
 use Rattle.dt_record.specs.declared.keys.Key.{Key}
 use Rattle.dt_step.specs.declared.state.Arch.{Arch}
 use Rattle.dt_stores.specs.Kept.{Kept}
+use Rattle.dt_windows.specs.Kept.{WindowsView}
 
 -- What is kept of a hart (this project's own): its state, how many of its records there were and the stamp of the last
 -- of them, 0 before the first; its store buffer; the newest key that it knows for each byte; the cycle that its next load
--- may not be below, and the greatest cycle in which it read memory.
+-- may not be below, and the greatest cycle in which it read memory; the line and the LR's key of its reservation; and the
+-- moments from which it may translate and fetch.
 pub record HartView : Type 0 where
   pub arch : Arch
   pub seq : ℕ
@@ -14,3 +16,5 @@ pub record HartView : Type 0 where
   pub keys : List (ℕ × Key)
   pub floor : ℕ
   pub last_read : ℕ
+  pub reserved : Option (ℕ × Key)
+  pub windows : WindowsView

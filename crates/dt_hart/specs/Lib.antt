@@ -1,7 +1,10 @@
 pub mod Built
+pub mod Counting
+pub mod Fences
 pub mod Following
 pub mod HartView
 pub mod OwnWrites
+pub mod Reserving
 pub mod Settings
 pub mod Standing
 pub mod Taking

@@ -6,8 +6,11 @@ use Rattle.dt_local.specs.LocalMemory.{local_memory}
 use Rattle.dt_sources.specs.Choice.{ChoosesLeast}
 use Rattle.dt_sources.specs.Knowing.{Knows, AreJudged}
 use Rattle.dt_stores.specs.Standing.{StandsFor as Keeps}
+use Rattle.dt_windows.specs.Kept.{StandsFor as KeepsFences}
+use Rattle.dt_hart.specs.Fences.{fences_of}
 use Rattle.dt_hart.specs.HartView.{HartView}
 use Rattle.dt_hart.specs.OwnWrites.{GoesOn}
+use Rattle.dt_hart.specs.Reserving.{reserved_in}
 use Rattle.dt_hart.specs.Settings.{Setting, arch_of, did, key_in, next_key, last_stamp}
 
 -- What is kept of a hart stands for a setting (this project's own): it is what the hart's records before leave, and the
@@ -22,6 +25,8 @@ pub record StandsFor (h : HartView) (s : Setting) : Type 0 where
   pub judged : AreJudged s.writes (did s) (next_key s)
   pub floor : h.floor ≡ order_floor (did s)
   pub last_read : h.last_read ≡ last_read (did s)
+  pub reserved : h.reserved ≡ reserved_in s.before
+  pub windows : KeepsFences h.windows s.writes (fences_of s)
 
 -- what local memory and the store buffer know at a next record
 pub record KnowsAt (h : HartView) (s : Setting) (next : Key) : Type 0 where

@@ -1,11 +1,15 @@
-use Rattle.std.specs.Prelude.{ℕ, ◌≡◌, ◌≤◌, ◌%◌, ◌==◌, ◌&&◌, ◌||◌, Bool, true, not, Option, Some, List}
+use Rattle.std.specs.Prelude.{ℕ, ◌≡◌, ◌+◌, ◌<◌, ◌≤◌, ◌%◌, ◌==◌, ◌&&◌, ◌||◌, Bool, true, false, not, Option, Some, List, slice_get, IsTrue, IfSome}
 use Rattle.dt_record.specs.declared.accesses.LoadAsk.{LoadAsk}
+use Rattle.dt_record.specs.declared.keys.Key.{Key}
 use Rattle.dt_record.specs.declared.origins.Sources.{Sources}
 use Rattle.dt_record.specs.declared.records.Record.{Record}
 use Rattle.dt_record.specs.declared.records.Body.{Body}
 use Rattle.dt_record.specs.declared.records.Body.TheVariants.{Drain}
-use Rattle.dt_record.specs.Actions.{Action, Stored, Loaded}
-use Rattle.dt_record.specs.Lawful.{is_in_ram}
+use Rattle.dt_record.specs.declared.writes.Write.{Write}
+use Rattle.dt_record.specs.Actions.{Action, Stored, Fenced, Loaded, Atomic}
+use Rattle.dt_record.specs.Lawful.{is_in_ram, is_atomic_place}
+use Rattle.dt_record.specs.LoadSources.{origin_of_key}
+use Rattle.dt_record.specs.Memory.{source_at, moment_of}
 use Rattle.dt_reference.specs.HartActions.{width_of}
 use Rattle.dt_reference.specs.Meaning.{meaning_of}
 use Rattle.dt_sources.specs.Choice.{FitsNext}
@@ -13,15 +17,23 @@ use Rattle.dt_sources.specs.Finding.{AreSourcesAt, is_load_place}
 use Rattle.dt_stores.specs.declared.answers.DrainAnswer.TheVariants.{Took}
 use Rattle.dt_stores.specs.Draining.{drain_answer}
 use Rattle.dt_stores.specs.Places.{is_store_place, is_store_width}
-use Rattle.dt_hart.specs.Settings.{Setting, did, does}
+use Rattle.dt_versions.specs.Spans.{first_visible}
+use Rattle.dt_hart.specs.Fences.{fence_in}
+use Rattle.dt_hart.specs.Settings.{Setting, arch_of, did, does, key_in}
 
 -- What is known of a record that is allowed (this project's own).
 
--- a store to RAM or a load from it has a width that there is, and an address that is aligned to it
+-- a store to RAM, a load from it or an atomic has a width that there is, and an address that is aligned to it
 abbrev pub is_placed : Option Action → Bool
 is_placed (Some (Stored s)) = is_store_place s
 is_placed (Some (Loaded ask)) = is_load_place ask
+is_placed (Some (Atomic key addr width reads acquires)) = is_atomic_place addr width
 is_placed action = true
+
+-- whether an action orders accesses before and after it
+abbrev pub is_fenced : Option Action → Bool
+is_fenced (Some (Fenced ww wr rr)) = true
+is_fenced action = false
 
 -- whether a load or a store of so many bytes of RAM may be at an address
 abbrev pub is_access_place : (addr width : ℕ) → Bool
@@ -39,9 +51,15 @@ pub record ReadsLeast (s : Setting) (ask : LoadAsk) (moment : ℕ) (sources : So
   pub least : (k : ℕ) → FitsNext s.image s.writes (did s) s.moments ask k → moment ≤ k
   pub origins : AreSourcesAt s.writes (did s) ask moment sources
 
--- an action that is a load from RAM did
+-- an atomic with this key had its bytes from the writes with smaller keys
+abbrev pub ReadsAtKey : List Write → Key → (addr width : ℕ) → Sources → Type 0
+ReadsAtKey writes key addr width sources =
+    (i : ℕ) → i < width → slice_get sources.from i ≡ Some (origin_of_key (source_at writes (moment_of writes key) (addr + i)))
+
+-- an action that is a load from RAM, or an LR or AMO, did
 abbrev pub IsRead : Setting → Option Action → (moment : ℕ) → Sources → Type 0
 IsRead s (Some (Loaded ask)) moment sources = ReadsLeast s ask moment sources
+IsRead s (Some (Atomic key addr width reads acquires)) moment sources = IsTrue reads → ReadsAtKey s.writes key addr width sources
 IsRead s action moment sources = Unit {0}
 
 -- a drain after some actions of its hart takes its stores, and its mask and bytes are theirs
@@ -49,7 +67,13 @@ abbrev pub IsDrained : List Action → Body → Type 0
 IsDrained actions (Drain line mask count bytes) = drain_answer actions line count ≡ Took mask bytes
 IsDrained actions body = Unit {0}
 
--- what was found when the record was judged: the moment at which a load from RAM read, and where its bytes come from
-pub record WasJudged (s : Setting) (r : Record) (moment : ℕ) (sources : Sources) : Type 0 where
+-- where a record fences pages or instructions, this is the least moment that the hart may see there
+abbrev pub IsFirstSeen : Setting → Record → (first : ℕ) → Type 0
+IsFirstSeen s r first = IfSome (fence_in (arch_of s) r.body) (λ plan. first ≡ first_visible s.writes (key_in s r) r.stamp)
+
+-- What was found when the record was judged: the moment at which a load from RAM read, where the bytes of a load, an LR or
+-- an AMO come from, and the least moment that the hart may see at a fence.
+pub record WasJudged (s : Setting) (r : Record) (moment : ℕ) (sources : Sources) (first : ℕ) : Type 0 where
   pub is_read : IsRead s (does s r) moment sources
   pub is_drained : IsDrained (did s) r.body
+  pub is_first : IsFirstSeen s r first

@@ -1,21 +1,24 @@
-ghost use Rattle.std.specs.Prelude.{◌≡◌, ℕ, max, if◌then◌else◌, IsTrue, OnOk, OnErr, List, [], ◌∷◌, ◌++◌, take};
+ghost use Rattle.std.specs.Prelude.{◌≡◌, ◌<◌, ℕ, max, if◌then◌else◌, IsFalse, IsTrue, IfSome, OnOk, OnErr, List, [], ◌∷◌, ◌++◌, take};
+ghost use Rattle.std.specs.Option.{option_map_or};
 ghost use Rattle.dt_local.specs.LocalMemory.{newest_of, is_noted, greater};
-ghost use Rattle.dt_record.specs.Actions.{Action, Drained};
-ghost use Rattle.dt_record.specs.Lawful.{IsLawful, is_ram_line};
+ghost use Rattle.dt_record.specs.Actions.{Action, Drained, Fenced};
+ghost use Rattle.dt_record.specs.Lawful.{IsLawful, is_atomic_place, is_ram_line};
 ghost use Rattle.dt_record.specs.Keys.{key_of};
 ghost use Rattle.dt_reference.specs.HartActions.{action_of};
+ghost use Rattle.dt_sources.specs.Knowing.{covering_key};
 ghost use Rattle.dt_stores.specs.declared.answers.DrainAnswer.TheVariants as answer;
 ghost use Rattle.dt_stores.specs.Draining.{drain_answer};
-ghost use Rattle.dt_stores.specs.Standing.{StandsFor as Keeps};
-ghost use Rattle.dt_hart.specs.Built.{is_built};
+ghost use Rattle.dt_stores.specs.Standing.{GainsAction, StandsFor as Keeps};
+ghost use Rattle.dt_hart.specs.Counting.{CountsOn};
 ghost use Rattle.dt_hart.specs.Following.{Follows, IsKept, read_key};
-ghost use Rattle.dt_hart.specs.Taking.{is_placed, is_access_place};
+ghost use Rattle.dt_hart.specs.Taking.{is_placed, is_access_place, is_fenced};
 
-use crate::notes::note_read;
+use crate::atomics::{AtomicOrder, order_of};
+use crate::notes::{note_atomic, note_read};
 use crate::places::{is_in_ram, width_of};
 use dt_local::Local;
-use dt_record::{Body, Key, OwnStore, Record, Sources};
-use dt_stores::{DrainAnswer, Stores, loads_keep_stores};
+use dt_record::{Body, Key, OwnStore, Record, Sources, Write, write_of};
+use dt_stores::{DrainAnswer, Stores, atomics_keep_stores, loads_keep_stores};
 use std::alloc::AllocError;
 
 /// What a hart's memory accesses leave, as later ones ask for it.
@@ -30,15 +33,18 @@ pub struct Accesses {
 }
 
 impl Accesses {
-    /// Takes what the record with this number does. The sources are those of a load from RAM.
+    /// Takes what the record with this number does, which is no fence. The sources are those of a
+    /// load from RAM, or of an LR or AMO.
     pub fn take(&mut self, seq: u32, event: &Record, sources: Sources) -> Result<(), AllocError>
         requires lawful { IsLawful event.now }
-        requires built { IsTrue (is_built event.now) }
+        requires no_fence { IsFalse (is_fenced (action_of seq event.now)) }
         requires placed { IsTrue (is_placed (action_of seq event.now)) }
         ensures follows { OnOk result (Follows self.old self.new (key_of seq event.now) event.now.body sources) }
+        ensures counted { OnOk result (CountsOn self.old.stores self.new.stores) }
         ensures unchanged { OnErr result (IsKept self.old self.new) }
     {
         loads_keep_stores();
+        atomics_keep_stores();
         let key = Key {
             stamp: event.stamp,
             hart: event.hart,
@@ -59,6 +65,23 @@ impl Accesses {
                 width: width_of(bits),
                 value,
             }),
+            Body::Atomic {
+                retire,
+                paddr,
+                width,
+                wrote,
+                ..
+            } => {
+                let order = order_of(retire.bits, wrote);
+                self.take_atomic(
+                    key.stamp,
+                    order,
+                    write_of(event, seq),
+                    paddr,
+                    width,
+                    sources,
+                )
+            }
             Body::Drain {
                 line,
                 mask,
@@ -67,6 +90,18 @@ impl Accesses {
             } => self.take_drain(key, line, mask, count),
             _ => Ok(()),
         }
+    }
+
+    /// Takes a fence that orders writes before writes, writes before reads, and reads before reads.
+    pub fn take_fence(&mut self, ww: bool, wr: bool, rr: bool)
+        requires { (self.old.stores.ww < 4194304) × (self.old.stores.wr < 4194304) }
+        ensures stores { GainsAction self.old.stores self.new.stores (Fenced ww wr rr) }
+        ensures keys { self.new.local.keys ≡ self.old.local.keys }
+        ensures floor { self.new.floor ≡ max self.old.floor (if rr then self.old.last_read else 0) }
+        ensures last_read { self.new.last_read ≡ self.old.last_read }
+    {
+        self.stores.fence(ww, wr);
+        self.floor = raised(self.floor, rr, self.last_read);
     }
 
     /// A load from RAM notes the writes that its bytes came from.
@@ -89,10 +124,36 @@ impl Accesses {
         Ok(())
     }
 
+    /// An atomic in a cycle, which made this write or none.
+    fn take_atomic(
+        &mut self,
+        stamp: u64,
+        order: AtomicOrder,
+        own: Option<Write>,
+        addr: u64,
+        width: u8,
+        sources: Sources,
+    ) -> Result<(), AllocError>
+        requires place { IsTrue (is_atomic_place addr width) }
+        requires line { IfSome own (λ w. IsTrue (is_ram_line w.line)) }
+        ensures stores { self.new.stores ≡ self.old.stores }
+        ensures noted { OnOk result ((byte : ℕ) → newest_of self.new.local byte ≡ greater (newest_of self.old.local byte) (option_map_or (covering_key byte) own (if order.reads then read_key addr (take width sources.from) byte else None))) }
+        ensures floor { OnOk result (self.new.floor ≡ max self.old.floor (if order.acquires then stamp else 0)) }
+        ensures last_read { OnOk result (self.new.last_read ≡ max self.old.last_read (if order.reads then stamp else 0)) }
+        ensures unchanged { OnErr result (IsKept self.old self.new) }
+    {
+        let from = &sources.from[..usize::from(width)];
+        note_atomic(&mut self.local, own, order.reads, addr, from)?;
+        self.floor = raised(self.floor, order.acquires, stamp);
+        self.last_read = raised(self.last_read, order.reads, stamp);
+        Ok(())
+    }
+
     /// A drain notes its own key. One that is allowed takes its stores, so no other answer is asked.
     fn take_drain(&mut self, key: Key, line: u64, mask: u64, count: u16) -> Result<(), AllocError>
         requires line { IsTrue (is_ram_line line) }
         ensures stores { OnOk result ((actions : List Action) (taken : ℕ) (bytes : List ℕ) → Keeps self.old.stores actions → drain_answer actions line count ≡ answer.Took taken bytes → Keeps self.new.stores (actions ++ Drained key line count ∷ [])) }
+        ensures counted { OnOk result (CountsOn self.old.stores self.new.stores) }
         ensures noted { OnOk result ((byte : ℕ) → newest_of self.new.local byte ≡ greater (newest_of self.old.local byte) (if is_noted line mask byte then Some key else None)) }
         ensures floor { self.new.floor ≡ self.old.floor }
         ensures last_read { self.new.last_read ≡ self.old.last_read }
@@ -105,4 +166,11 @@ impl Accesses {
         self.local.note(line, mask, &[key; 64]);
         Ok(())
     }
+}
+
+/// The cycle, raised to another one where that is asked.
+fn raised(cycle: u64, asked: bool, to: u64) -> u64
+    ensures { result ≡ max cycle (if asked then to else 0) }
+{
+    if asked { cycle.max(to) } else { cycle }
 }

@@ -4,20 +4,22 @@ ghost use Rattle.dt_record.specs.Lawful.{IsLawful};
 ghost use Rattle.dt_reference.specs.HartActions.{action_of};
 ghost use Rattle.dt_reference.specs.Run.{CanFollow, after_record};
 ghost use Rattle.dt_step.specs.State.{IsArch, IsReachable};
-ghost use Rattle.dt_hart.specs.Built.{is_built};
 ghost use Rattle.dt_hart.specs.OwnWrites.{GoesOn};
 ghost use Rattle.dt_hart.specs.Settings.{Setting, at_first, after};
 ghost use Rattle.dt_hart.specs.Standing.{StandsFor};
 ghost use Rattle.dt_hart.specs.Taking.{WasJudged, is_placed};
 
 use crate::accesses::Accesses;
+use crate::atomics::reserved_by;
+use crate::effects::take_effects;
 use dt_judged::judged_goes_on;
 use dt_local::Local;
-use dt_record::{Record, Sources};
+use dt_record::{Key, Record, Sources};
 use dt_reference::{actions_go_on, advance, start, state_goes_on};
 use dt_sources::{knowing_goes_on, least_choice_goes_on, notes_are_added};
 use dt_step::Arch;
 use dt_stores::Stores;
+use dt_windows::Windows;
 use std::alloc::{AllocError, Global};
 use std::marker::Model;
 
@@ -29,10 +31,14 @@ pub struct Hart {
     /// The stamp of the last record, 0 before the first.
     stamp: u64,
     accesses: Accesses,
+    /// The line of the reservation, and the key of the LR that made it.
+    reserved: Option<(u64, Key)>,
+    windows: Windows,
 }
 
 impl Model for Hart {
     ghost use Rattle.dt_step.specs.State.{IsArch, IsReachable};
+    ghost use Rattle.dt_hart.specs.Counting.{IsCounted};
     ghost use Rattle.dt_hart.specs.HartView.{HartView};
 
     ghost Value = { HartView };
@@ -45,9 +51,11 @@ impl Model for Hart {
       keys = h.accesses.local.keys;
       floor = h.accesses.floor;
       last_read = h.accesses.last_read;
+      reserved = h.reserved;
+      windows = h.windows;
     } };
 
-    ghost invariant = { λ h. IsArch h.arch × IsReachable h.arch };
+    ghost invariant = { λ h. IsArch h.arch × IsReachable h.arch × IsCounted h.accesses.stores h.seq };
 }
 
 impl Hart {
@@ -67,6 +75,8 @@ impl Hart {
                 floor: 0,
                 last_read: 0,
             },
+            reserved: None,
+            windows: Windows::new(alloc),
         }
     }
 
@@ -121,17 +131,32 @@ impl Hart {
         self.accesses.floor
     }
 
+    /// The line of the hart's reservation, and the key of the LR that made it.
+    pub fn reserved(&self) -> Option<(u64, Key)>
+        ensures { result ≡ self.now.reserved }
+    {
+        self.reserved
+    }
+
+    /// From which moments the hart may translate and fetch.
+    pub fn windows(&self) -> &Windows
+        ensures { result.now ≡ self.now.windows }
+    {
+        &self.windows
+    }
+
     /// Takes the hart's next record, which is allowed. The sources are where the bytes of a load from
-    /// RAM come from; of any other record they do not count.
-    pub fn take(&mut self, event: &Record, sources: Sources) -> Result<(), AllocError>
+    /// RAM, an LR or an AMO come from, and `first` is the least moment that the hart may see at it.
+    /// The sources of other records do not count, nor does the moment unless the record fences pages
+    /// or instructions.
+    pub fn take(&mut self, event: &Record, sources: Sources, first: u32) -> Result<(), AllocError>
         requires lawful { IsLawful event.now }
-        requires built { IsTrue (is_built event.now) }
         requires its { event.now.hart ≡ self.old.arch.hart }
         requires in_time { self.old.stamp ≤ event.now.stamp }
         requires room { self.old.seq < 4194304 }
         requires follows { CanFollow self.old.arch event.now.body }
         requires placed { IsTrue (is_placed (action_of self.old.seq event.now)) }
-        ensures goes_on { OnOk result ((s : Setting) (moment : ℕ) → StandsFor self.old s → GoesOn s event.now → WasJudged s event.now moment sources → StandsFor self.new (after s event.now moment)) }
+        ensures goes_on { OnOk result ((s : Setting) (moment : ℕ) → StandsFor self.old s → GoesOn s event.now → WasJudged s event.now moment sources first → StandsFor self.new (after s event.now moment)) }
         ensures arch { OnOk result (self.new.arch ≡ after_record self.old.arch event.now) }
         ensures number { self.new.arch.hart ≡ self.old.arch.hart }
         ensures counted { OnOk result (self.new.seq ≡ self.old.seq + 1) }
@@ -144,7 +169,21 @@ impl Hart {
         notes_are_added();
         least_choice_goes_on();
         judged_goes_on();
-        self.accesses.take(self.seq, event, sources)?;
+        take_effects(
+            &mut self.accesses,
+            &mut self.windows,
+            &self.arch,
+            self.seq,
+            event,
+            sources,
+            first,
+        )?;
+        let key = Key {
+            stamp: event.stamp,
+            hart: event.hart,
+            seq: self.seq,
+        };
+        self.reserved = reserved_by(key, event, self.reserved);
         advance(&mut self.arch, event);
         self.seq += 1;
         self.stamp = event.stamp;

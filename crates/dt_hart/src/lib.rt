@@ -4,7 +4,9 @@
 #![tactic(auto)]
 
 mod accesses;
+mod atomics;
 mod built;
+mod effects;
 mod harts;
 mod laws;
 mod notes;

@@ -1,15 +1,49 @@
-ghost use Rattle.std.specs.Prelude.{◌≡◌, ℕ, ◌+◌, ◌%◌, ◌==◌, ◌&&◌, ◌<◌, ◌≤◌, if◌then◌else◌, is_some, length, slice_get, Some, IsTrue, OnOk, OnErr};
+ghost use Rattle.std.specs.Prelude.{◌≡◌, ℕ, ◌+◌, ◌%◌, ◌==◌, ◌&&◌, ◌<◌, ◌≤◌, if◌then◌else◌, is_some, length, slice_get, Some, IfSome, IsTrue, OnOk, OnErr};
 ghost use Rattle.std.specs.Int.{bit_at};
-ghost use Rattle.dt_local.specs.LocalMemory.{newest_of, greater};
-ghost use Rattle.dt_record.specs.Lawful.{is_in_ram};
+ghost use Rattle.std.specs.Option.{option_map_or};
+ghost use Rattle.dt_local.specs.LocalMemory.{newest_of, is_noted, greater};
+ghost use Rattle.dt_record.specs.Lawful.{is_in_ram, is_ram_line};
 ghost use Rattle.dt_record.specs.declared.keys.Key.{Key};
 ghost use Rattle.dt_record.specs.declared.origins.Origin.TheVariants as origin;
-ghost use Rattle.dt_sources.specs.Knowing.{write_key};
+ghost use Rattle.dt_sources.specs.Knowing.{covering_key, write_key};
 ghost use Rattle.dt_hart.specs.Following.{read_key};
 
 use dt_local::Local;
-use dt_record::{Key, Origin};
+use dt_record::{Key, Origin, Write};
 use std::alloc::AllocError;
+
+/// Notes what an atomic leaves that made this write or none: its own key for the bytes that it
+/// wrote, and where it wrote none and reads, the writes that its bytes came from.
+pub fn note_atomic(
+    local: &mut Local,
+    own: Option<Write>,
+    reads: bool,
+    addr: u64,
+    from: &[Origin],
+) -> Result<(), AllocError>
+    requires in_ram { IsTrue (is_in_ram addr) }
+    requires on_one_line { addr % 64 + length from.now ≤ 64 }
+    requires line { IfSome own (λ w. IsTrue (is_ram_line w.line)) }
+    ensures noted { OnOk result ((byte : ℕ) → newest_of local.new byte ≡ greater (newest_of local.old byte) (option_map_or (covering_key byte) own (if reads then read_key addr from.now byte else None))) }
+    ensures unchanged { OnErr result (local.new.keys ≡ local.old.keys) }
+{
+    match own {
+        Some(w) => note_own(local, w.key, w.line, w.mask),
+        None if reads => note_read(local, addr, from),
+        None => Ok(()),
+    }
+}
+
+/// Notes the same key for each of these bytes of a line.
+fn note_own(local: &mut Local, key: Key, line: u64, mask: u64) -> Result<(), AllocError>
+    requires { IsTrue (is_ram_line line) }
+    ensures noted { OnOk result ((byte : ℕ) → newest_of local.new byte ≡ greater (newest_of local.old byte) (if is_noted line mask byte then Some key else None)) }
+    ensures unchanged { OnErr result (local.new.keys ≡ local.old.keys) }
+{
+    local.reserve(line, mask)?;
+    local.note(line, mask, &[key; 64]);
+    Ok(())
+}
 
 /// Notes for each byte of a load the key of the write that it came from.
 pub fn note_read(local: &mut Local, addr: u64, from: &[Origin]) -> Result<(), AllocError>

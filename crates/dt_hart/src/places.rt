@@ -9,8 +9,8 @@ use dt_decode::Instr;
 use dt_record::{Body, RAM_END, RAM_START, Record};
 use dt_reference::meaning;
 
-/// Whether the record, where it is a load from RAM or a store to RAM, has a width that there is and
-/// an address that is aligned to it.
+/// Whether the record, where it is a load from RAM, a store to RAM or an atomic, has a width that
+/// there is and an address that is aligned to it. Each atomic that is lawful does.
 pub fn is_placed(event: &Record) -> bool
     requires { IsLawful event.now }
     ensures { (seq : ℕ) → result ≡ is_placed (action_of seq event.now) }

@@ -36,6 +36,26 @@ fn drain() -> Body {
     }
 }
 
+/// An atomic on the double at the start of the line.
+fn atomic(bits: u32, value: u64, wrote: bool, new: u64) -> Body {
+    let retire = Retire {
+        pc: 0x8000_0000,
+        bits,
+        value,
+    };
+    Body::Atomic {
+        retire,
+        paddr: LINE,
+        width: 8,
+        wrote,
+        new,
+    }
+}
+
+fn key(stamp: u64, hart: u8, seq: u32) -> Key {
+    Key { stamp, hart, seq }
+}
+
 fn everywhere(from: Origin) -> Sources {
     Sources {
         count: 8,
@@ -48,13 +68,14 @@ const NONE: Sources = Sources {
     from: [Origin::Image; 8],
 };
 
-/// Takes a record of the hart that may be next.
-fn take(
+/// Takes a record of the hart that may be next, where `first` is the least moment that it may see.
+fn take_at(
     rt: &impl Abort,
     hart: &mut Hart,
     stamp: u64,
     body: Body,
     sources: Sources,
+    first: u32,
 ) -> Result<(), Fail> {
     let event = Record {
         stamp,
@@ -62,11 +83,21 @@ fn take(
         body,
     };
     assert!(rt; lawful(&event));
-    assert!(rt; is_built(&event) && is_placed(&event));
+    assert!(rt; is_placed(&event));
     assert!(rt; hart.stamp() <= stamp && hart.seq() < 4_194_304);
     assert!(rt; can_follow(hart.arch(), &event));
-    hart.take(&event, sources)?;
+    hart.take(&event, sources, first)?;
     Ok(())
+}
+
+fn take(
+    rt: &impl Abort,
+    hart: &mut Hart,
+    stamp: u64,
+    body: Body,
+    sources: Sources,
+) -> Result<(), Fail> {
+    take_at(rt, hart, stamp, body, sources, 0)
 }
 
 #[test]
@@ -79,22 +110,18 @@ fn a_store_is_forwarded_and_then_drained(rt: HostRuntime) -> Result<(), Fail> {
         paddr: LINE,
         value: 7,
     };
-    let key = Key {
-        stamp: 5,
-        hart: 0,
-        seq: 4,
-    };
+    let drained = key(5, 0, 4);
     for (stamp, body, sources) in [
         (1, commit(0x8000_0000, 0x0000_0297, 0x8000_0000), NONE),
         (2, commit(0x8000_0004, 0x0070_0393, 7), NONE),
         (3, store, NONE),
         (4, load(0x8000_000c, 4), everywhere(Origin::Store(2))),
         (5, drain(), NONE),
-        (6, load(0x8000_0010, 6), everywhere(Origin::Write(key))),
+        (6, load(0x8000_0010, 6), everywhere(Origin::Write(drained))),
     ] {
         take(&rt, &mut hart, stamp, body, sources)?;
-        let drained = stamp >= 5;
-        assert_eq!(rt; hart.local().newest(LINE + 7), drained.then_some(key));
+        let known = (stamp >= 5).then_some(drained);
+        assert_eq!(rt; hart.local().newest(LINE + 7), known);
         assert_eq!(rt;
             hart.stores().forward(LINE, stamp).is_some(),
             stamp == 3 || stamp == 4
@@ -108,19 +135,93 @@ fn a_store_is_forwarded_and_then_drained(rt: HostRuntime) -> Result<(), Fail> {
 #[test]
 fn a_load_notes_the_write_that_it_read(rt: HostRuntime) -> Result<(), Fail> {
     let mut hart = Hart::new(rt.alloc(), 1, false);
-    let key = Key {
-        stamp: 10,
-        hart: 0,
-        seq: 5,
-    };
+    let read = key(10, 0, 5);
     for (stamp, body, sources) in [
         (1, commit(0x8000_0000, 0x0000_0297, 0x8000_0000), NONE),
-        (12, load(0x8000_0004, 12), everywhere(Origin::Write(key))),
+        (12, load(0x8000_0004, 12), everywhere(Origin::Write(read))),
     ] {
         take(&rt, &mut hart, stamp, body, sources)?;
     }
-    for (addr, known) in [(LINE, Some(key)), (LINE + 7, Some(key)), (LINE + 8, None)] {
+    for (addr, known) in [(LINE, Some(read)), (LINE + 7, Some(read)), (LINE + 8, None)] {
         assert_eq!(rt; hart.local().newest(addr), known);
+    }
+    Ok(())
+}
+
+/// An LR and an SC with aq, an AMO without, and a fence of reads before reads.
+#[test]
+fn atomics_order_note_and_reserve(rt: HostRuntime) -> Result<(), Fail> {
+    let mut hart = Hart::new(rt.alloc(), 1, false);
+    let trap = Body::Trap {
+        pc: 0x8000_0004,
+        bits: 0x73,
+        cause: 11,
+        tval: 0,
+    };
+    let other = key(5, 0, 3);
+    let held = Some((LINE, key(10, 1, 0)));
+    let added = key(13, 1, 3);
+    for (stamp, body, from, floor, reserved, known) in [
+        (
+            10,
+            atomic(0x1405_35af, 0, false, 0),
+            Origin::Write(other),
+            10,
+            held,
+            other,
+        ),
+        (11, trap, Origin::Image, 10, held, other),
+        (
+            12,
+            atomic(0x1cc5_35af, 1, false, 0),
+            Origin::Image,
+            10,
+            None,
+            other,
+        ),
+        (
+            13,
+            atomic(0x00c5_35af, 0, true, 7),
+            Origin::Image,
+            10,
+            None,
+            added,
+        ),
+        (
+            14,
+            commit(0x8000_0000, 0x0330_000f, 0),
+            Origin::Image,
+            13,
+            None,
+            added,
+        ),
+    ] {
+        take(&rt, &mut hart, stamp, body, everywhere(from))?;
+        assert_eq!(rt;
+            (hart.floor(), hart.reserved()),
+            (floor, reserved),
+            "{stamp}"
+        );
+        assert_eq!(rt; hart.local().newest(LINE), Some(known), "{stamp}");
+    }
+    Ok(())
+}
+
+/// A fence of instructions, of the page of address 0, of all pages, and of accesses alone.
+#[test]
+fn fences_begin_windows(rt: HostRuntime) -> Result<(), Fail> {
+    let mut hart = Hart::new(rt.alloc(), 0, false);
+    for (first, bits, instructions, page, other) in [
+        (3, 0x0000_100f, 3, 0, 0),
+        (4, 0x1202_8073, 3, 4, 0),
+        (5, 0x1200_0073, 3, 5, 5),
+        (6, 0x0330_000f, 3, 5, 5),
+    ] {
+        let body = commit(0x8000_0000, bits, 0);
+        take_at(&rt, &mut hart, u64::from(first), body, NONE, first)?;
+        let windows = hart.windows();
+        let kept = (windows.instructions(), windows.page(8), windows.page(4096));
+        assert_eq!(rt; kept, (instructions, page, other), "{bits:x}");
     }
     Ok(())
 }

@@ -1,6 +1,6 @@
 use Rattle.std.proofs.Common.{sym, ◌∙◌}
 use Rattle.dt_record.specs.Keys.{key_of}
-use Rattle.dt_hart.proofs.AccessLaws.{load_follows, drain_follows}
+use Rattle.dt_hart.proofs.AccessLaws.{load_follows, atomic_follows, drain_follows}
 use Rattle.dt_hart.proofs.accesses.Accesses.take.Goals as goal
 
 pub returns-in-Load-clause-follows : goal.returns-in-Load-clause-follows
@@ -8,6 +8,12 @@ returns-in-Load-clause-follows c =
     load_follows c.take_load.result c.args.self.now c.take_load.new.self (key_of c.args.seq c.args.event.now) c.args.event.now.body c.args.sources c.in-Load.retire c.in-Load.at c.in-Load.paddr c.width_of.result
     c.loads_keep_stores.ensures c.in-Load.is (sym c.is_in_ram.ensures ∙ c.if-is_in_ram.true) c.width_of.ensures
     c.take_load.ensures.stores c.take_load.ensures.noted c.take_load.ensures.floor c.take_load.ensures.last_read
+
+pub returns-in-Atomic-clause-follows : goal.returns-in-Atomic-clause-follows
+returns-in-Atomic-clause-follows c =
+    atomic_follows c.take_atomic.result c.args.self.now c.take_atomic.new.self (key_of c.args.seq c.args.event.now) c.args.event.now.body c.args.sources c.in-Atomic.retire c.in-Atomic.paddr c.in-Atomic.width c.in-Atomic.wrote c.in-Atomic.new
+    c.order_of-order.result.reads c.order_of-order.result.acquires c.write_of.result c.atomics_keep_stores.ensures c.in-Atomic.is c.order_of-order.ensures.reads c.order_of-order.ensures.acquires c.write_of.ensures
+    c.take_atomic.ensures.stores c.take_atomic.ensures.noted c.take_atomic.ensures.floor c.take_atomic.ensures.last_read
 
 pub returns-in-Drain-clause-follows : goal.returns-in-Drain-clause-follows
 returns-in-Drain-clause-follows c =

@@ -17,9 +17,10 @@ returns-clause-goes_on c = λ s moment stands g known.
       least = c.least_choice_goes_on.ensures;
       judging = c.judged_goes_on.ensures;
     } in
-    goes_on laws c.self.inside.arch c.advance.new.a c.self.inside.seq c.self.inside.stamp c.self.inside.accesses c.take.new.self c.args.event.now c.args.sources c.requires.built
+    goes_on laws c.self.inside.arch c.advance.new.a c.self.inside.seq c.self.inside.stamp c.self.inside.accesses c.take_effects.new.accesses
+    c.self.inside.reserved c.reserved_by-self-inside.result c.self.inside.windows c.take_effects.new.windows c.args.event.now c.args.sources c.args.first
     (subst (λ (v : HartView). IsTrue (is_placed (action_of v.seq c.args.event.now))) (sym c.self.view_is) c.requires.placed)
-    c.advance.ensures.state c.in_ok-take.ensures.follows s moment
+    c.advance.ensures.state c.in_ok-take_effects.ensures.follows c.reserved_by-self-inside.ensures c.in_ok-take_effects.ensures.fences s moment
     (subst (λ (v : HartView). StandsFor v s) (sym c.self.view_is) stands) g known
 
 pub returns-clause-number : goal.returns-clause-number

@@ -1,0 +1,9 @@
+pub mod Answers
+pub mod Asking
+pub mod Draining
+pub mod Grounds
+pub mod Laws
+pub mod Newer
+pub mod Reading
+pub mod Values
+pub mod Worked

@@ -1,0 +1,63 @@
+ghost use Rattle.std.specs.Prelude.{◌≡◌, ◌≤◌, length, IsTrue};
+ghost use Rattle.std.specs.Result.{is_ok};
+ghost use Rattle.std.specs.Str.{bytes_eq};
+ghost use Rattle.dt_record.specs.Lawful.{is_ram_line};
+ghost use Rattle.dt_refills.specs.Refilling.{differing, line_at, refill_check};
+
+use dt_rules::{Misfit, Reason};
+use dt_versions::{Moments, Span};
+
+/// The bytes of the line after the first k writes.
+fn line_at(m: &Moments, k: u32, line: u64) -> [u8; 64]
+    requires within { k ≤ length m.now.writes }
+    requires line { IsTrue (is_ram_line line) }
+    ensures { result ≡ line_at m.now.image m.now.writes k line }
+{
+    let mut bytes = [0; 64];
+    for i in 0..64 {
+        bytes[i] = m.byte(k, line + i as u64);
+    }
+    bytes
+}
+
+/// Whether the bytes found are those that are due.
+fn are_due(due: &[u8], found: &[u8]) -> Result<(), Misfit>
+    requires { length due.now ≡ length found.now }
+    ensures { result ≡ differing due.now found.now }
+{
+    for i in 0..due.len() {
+        if due[i] != found[i] {
+            return Err(Misfit {
+                reason: Reason::Refill,
+                expected: u64::from(due[i]),
+                found: u64::from(found[i]),
+            });
+        }
+    }
+    Ok(())
+}
+
+/// Whether the line had these bytes after the first k writes.
+fn had(m: &Moments, k: u32, line: u64, bytes: &[u8; 64]) -> Result<(), Misfit>
+    requires within { k ≤ length m.now.writes }
+    requires line { IsTrue (is_ram_line line) }
+    ensures value { result ≡ differing (line_at m.now.image m.now.writes k line) bytes.now }
+    ensures same { is_ok result ≡ bytes_eq (line_at m.now.image m.now.writes k line) bytes.now }
+{
+    are_due(&line_at(m, k, line), bytes)
+}
+
+/// Whether the line of RAM has these bytes at some moment of the span: those that the hart may see
+/// at the refill. The misfit names the first byte that differs at the last moment.
+pub fn refill(m: &Moments, seen: Span, line: u64, bytes: &[u8; 64]) -> Result<(), Misfit>
+    requires within { seen.last ≤ length m.now.writes }
+    requires line { IsTrue (is_ram_line line) }
+    ensures { result ≡ refill_check m.now.image m.now.writes seen line bytes.now }
+{
+    for k in (seen.first..=seen.last).rev() {
+        if had(m, k, line, bytes).is_ok() {
+            return Ok(());
+        }
+    }
+    had(m, seen.last, line, bytes)
+}
