@@ -5,6 +5,7 @@ mod LaterFindings
 mod LaterReads
 mod LaterWrites
 mod Leading
+mod LoadMoments
 mod Meeting
 mod OneFinding
 mod Placing

@@ -10,7 +10,7 @@ pub fn records_have_one_finding()
     loads_have_one_answer();
 }
 
-/// The moments of loads other than the hart's earlier ones do not count.
+/// Only the moments at which the hart's earlier loads read count.
 pub fn earlier_moments_decide()
     ensures { EarlierMomentsDecide }
 {}
