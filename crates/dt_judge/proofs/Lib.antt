@@ -7,6 +7,7 @@ mod LaterWrites
 mod Leading
 mod LoadMoments
 mod Meeting
+mod OneEnd
 mod OneFinding
 mod Placing
 mod Readings

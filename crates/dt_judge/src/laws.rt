@@ -1,5 +1,5 @@
 //! Laws of the judgement, for the crates above. The functions do nothing.
-ghost use Rattle.dt_judge.specs.Laws.{EarlierMomentsDecide, RecordsHaveOneFinding};
+ghost use Rattle.dt_judge.specs.Laws.{EarlierMomentsDecide, RecordsHaveOneFinding, RunsHaveOneEnd};
 
 use dt_loads::loads_have_one_answer;
 
@@ -14,3 +14,12 @@ pub fn records_have_one_finding()
 pub fn earlier_moments_decide()
     ensures { EarlierMomentsDecide }
 {}
+
+/// How far a hart's records are allowed, and why no further, is determined by the records, the
+/// image and the writes: there is but one choice of least moments at the loads.
+pub fn runs_have_one_end()
+    ensures { RunsHaveOneEnd }
+{
+    records_have_one_finding();
+    earlier_moments_decide();
+}

@@ -13,4 +13,4 @@ mod tests;
 
 pub use dt_hart::{Hart, is_built};
 pub use judging::{Judged, judge};
-pub use laws::{earlier_moments_decide, records_have_one_finding};
+pub use laws::{earlier_moments_decide, records_have_one_finding, runs_have_one_end};

@@ -1,4 +1,7 @@
-use crate::{Hart, Judged, earlier_moments_decide, is_built, judge, records_have_one_finding};
+use crate::{
+    Hart, Judged, earlier_moments_decide, is_built, judge, records_have_one_finding,
+    runs_have_one_end,
+};
 use dt_record::{Body, Image, Key, Origin, Record, Retire, Sources, Write, lawful};
 use dt_rules::{Letters, NO_LETTERS, NO_NUMBER, NO_SOURCES, Reason};
 use dt_versions::Moments;
@@ -221,6 +224,7 @@ fn traps_and_interrupts(rt: HostRuntime) -> Result<(), Fail> {
 fn loads_from_devices(rt: HostRuntime) -> Result<(), Fail> {
     records_have_one_finding();
     earlier_moments_decide();
+    runs_have_one_end();
     let taken = fine(Letters {
         d: true,
         ..NO_LETTERS
