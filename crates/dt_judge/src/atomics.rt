@@ -13,7 +13,7 @@ ghost use Rattle.dt_judge.specs.Kinds.{Accesses, AtomicBy, IsAtomicFinding};
 
 use crate::kinds::{PLAIN, with_p};
 use crate::spans::{accessed, started};
-use dt_atomics::AtomicAccess;
+use dt_atomics::{AtomicAccess, allowed_atomics_are_exact};
 use dt_checks::Started;
 use dt_hart::Hart;
 use dt_loads::Passed;
@@ -49,6 +49,7 @@ fn at_address(h: &Hart, m: &Moments, p: bool, key: Key, x: AtomicAccess) -> Resu
     ensures finds { (last : ℕ) (actions : List Action) (moments : ℕ → ℕ) → Remembers h.now m.now.writes key actions moments → Accesses (grounds_kept h.now m.now last actions moments) key p x result }
     ensures read { IfOk result (λ passed. (actions : List Action) (moments : ℕ → ℕ) → Remembers h.now m.now.writes key actions moments → IsTrue (reads x.op) → ReadsAtKey m.now.writes key x.paddr x.said_width passed.sources) }
 {
+    allowed_atomics_are_exact();
     with_p(
         p,
         dt_atomics::atomic(m, h.stores(), h.local(), h.reserved(), key, x),
