@@ -1,5 +1,5 @@
-use Rattle.std.proofs.Common.{ℕ, ◌≡◌, ◌+◌, ◌-◌, ◌<◌, List, ◌∷◌, ◌++◌, map, replicate, zero, suc, ap, ◌∙◌, arith}
-use Rattle.std.specs.Prelude.{slice_set}
+use Rattle.std.proofs.Common.{ℕ, ◌≡◌, ◌+◌, ◌-◌, ◌<◌, List, ◌∷◌, ◌++◌, map, replicate, zero, suc, Some, ap, ◌∙◌, arith}
+use Rattle.std.specs.Prelude.{slice_get, slice_set}
 use Rattle.std.specs.List.{range_with_len}
 
 -- A list that is filled from its front.
@@ -23,3 +23,11 @@ fill_place f rest start i count within =
     ap (λ n. slice_set (filled f rest start i n) i (f (start + i))) before
     ∙ fill_next f rest start i (count - (i + 1))
     ∙ ap (λ n. filled f rest start n (count - (i + 1))) after
+
+-- one of the values
+pub filled_at : {X : Type 0} (f : ℕ → X) (rest : X) (start i left place : ℕ) → place < i → slice_get (filled f rest start i left) place ≡ Some (f (start + place))
+filled_at f rest start zero left place within = absurd (omega arith)
+filled_at f rest start (suc i) left zero within = let first : start ≡ start + 0 = omega arith in ap (λ n. Some (f n)) first
+filled_at f rest start (suc i) left (suc place) within =
+    let next : start + 1 + place ≡ start + suc place = omega arith in
+    filled_at f rest (start + 1) i left place (omega arith) ∙ ap (λ n. Some (f n)) next

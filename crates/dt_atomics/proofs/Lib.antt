@@ -1,3 +1,4 @@
+mod AllowedAtomics
 mod CheckSteps
 mod FilledSources
 mod FirstWrites

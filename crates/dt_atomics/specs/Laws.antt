@@ -1,14 +1,18 @@
-use Rattle.std.specs.Prelude.{ℕ, ◌≡◌, ◌↔◌, Some, List, ◌++◌, Result, IsTrue, nat_lt, slice_get}
+use Rattle.std.specs.Prelude.{ℕ, ◌≡◌, ◌+◌, ◌<◌, ◌↔◌, Some, List, ◌++◌, Result, Ok, IsTrue, nat_lt, slice_get}
 use Rattle.std.specs.List.{list_all}
 use Rattle.dt_loads.specs.declared.reading.Passed.{Passed}
 use Rattle.dt_record.specs.declared.keys.Key.{Key}
 use Rattle.dt_record.specs.declared.writes.Write.{Write}
 use Rattle.dt_record.specs.Actions.{Action}
 use Rattle.dt_record.specs.LoadSources.{origin_at}
+use Rattle.dt_record.specs.Memory.{moment_of}
 use Rattle.dt_rules.specs.declared.misfits.Misfit.{Misfit}
 use Rattle.dt_atomics.specs.declared.accesses.AtomicAccess.{AtomicAccess}
-use Rattle.dt_atomics.specs.Answers.{IsAtomicAnswer}
+use Rattle.dt_atomics.specs.Answers.{IsAtomicAnswer, old_value}
+use Rattle.dt_atomics.specs.Asking.{reads, writes_now}
 use Rattle.dt_atomics.specs.Grounds.{AtomicGrounds}
+use Rattle.dt_atomics.specs.Reading.{source_of}
+use Rattle.dt_atomics.specs.Values.{new_value}
 
 -- Laws of the answers to atomics (this project's own).
 
@@ -31,3 +35,15 @@ abbrev pub FirstWritesDecideAtomics : Type 0
 FirstWritesDecideAtomics = (g : AtomicGrounds) (later : List Write) (key : Key) (x : AtomicAccess) (answer : Result Passed Misfit)
     → IsTrue (list_all (λ w. nat_lt key.stamp w.key.stamp) later) → HadAlike g.writes later g.actions g.moments
     → IsAtomicAnswer g key x answer ↔ IsAtomicAnswer (with_writes g (g.writes ++ later)) key x answer
+
+-- What an allowed atomic is known by: its record has its instruction's width, says rightly whether memory was written and has
+-- what was, and each byte that an LR or AMO reads has its source.
+pub record IsExact (g : AtomicGrounds) (key : Key) (x : AtomicAccess) (passed : Passed) : Type 0 where
+  pub width : x.said_width ≡ x.width
+  pub wrote : x.wrote ≡ writes_now x.op x.wrote
+  pub new : x.new ≡ new_value x.op x.wrote x.width (old_value g key x) x.operand
+  pub origins : IsTrue (reads x.op) → (place : ℕ) → place < x.width
+      → slice_get passed.sources.from place ≡ Some (source_of g.writes (moment_of g.writes key) (x.paddr + place))
+
+abbrev pub AllowedAtomicsAreExact : Type 0
+AllowedAtomicsAreExact = (g : AtomicGrounds) (key : Key) (x : AtomicAccess) (passed : Passed) → IsAtomicAnswer g key x (Ok passed) → IsExact g key x passed

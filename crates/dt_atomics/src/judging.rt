@@ -45,6 +45,7 @@ pub fn atomic(
     Ok(allowed(m, l, k, live, x))
 }
 
+/// Whether the hart has a live reservation of the atomic's line.
 fn may_succeed(m: &Moments, reserved: Option<(u64, Key)>, key: Key, x: AtomicAccess) -> bool
     ensures { result ≡ is_live m.now.writes reserved (line_of x.paddr) key }
 {

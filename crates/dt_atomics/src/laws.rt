@@ -1,5 +1,5 @@
 //! Laws of the definitions, for the crates above. The functions do nothing.
-ghost use Rattle.dt_atomics.specs.Laws.{AtomicsHaveOneAnswer, FirstWritesDecideAtomics};
+ghost use Rattle.dt_atomics.specs.Laws.{AllowedAtomicsAreExact, AtomicsHaveOneAnswer, FirstWritesDecideAtomics};
 
 /// An atomic has one answer.
 pub fn atomics_have_one_answer()
@@ -9,4 +9,9 @@ pub fn atomics_have_one_answer()
 /// Writes of later cycles do not change the answer to an atomic.
 pub fn first_writes_decide_atomics()
     ensures { FirstWritesDecideAtomics }
+{}
+
+/// An allowed atomic is as its instruction asks, and what it read has its sources.
+pub fn allowed_atomics_are_exact()
+    ensures { AllowedAtomicsAreExact }
 {}

@@ -2,8 +2,8 @@ ghost use Rattle.std.specs.Prelude.{IsTrue};
 ghost use Rattle.dt_record.specs.Lawful.{is_atomic_place};
 
 use crate::{
-    AtomicAccess, AtomicOp, Misfit, Passed, atomic, atomics_have_one_answer,
-    first_writes_decide_atomics,
+    AtomicAccess, AtomicOp, Misfit, Passed, allowed_atomics_are_exact, atomic,
+    atomics_have_one_answer, first_writes_decide_atomics,
 };
 use dt_alu::AmoOp;
 use dt_local::Local;
@@ -132,19 +132,18 @@ fn an_sc_and_another_harts_write(rt: HostRuntime) -> Result<(), Fail> {
     let alloc = rt.alloc();
     atomics_have_one_answer();
     first_writes_decide_atomics();
+    allowed_atomics_are_exact();
     let alone = nothing_written(alloc);
-    assert_eq!(rt; sc(alloc, &alone, 0, true), Ok(PLAIN));
-    assert_eq!(rt; sc(alloc, &alone, 1, false), Ok(SETTLED));
-    assert_eq!(rt;
-        sc(alloc, &alone, 0, false),
-        refused(Reason::AtomicValue, 1, 0)
-    );
     let touched = drained(alloc)?;
-    assert_eq!(rt;
-        sc(alloc, &touched, 0, true),
-        refused(Reason::ScSuccess, 1, 0)
-    );
-    assert_eq!(rt; sc(alloc, &touched, 1, false), Ok(PLAIN));
+    let zero = refused(Reason::AtomicValue, 1, 0);
+    for (value, wrote, over_write, without) in [
+        (0, true, refused(Reason::ScSuccess, 1, 0), Ok(PLAIN)),
+        (1, false, Ok(PLAIN), Ok(SETTLED)),
+        (0, false, zero, zero),
+    ] {
+        assert_eq!(rt; sc(alloc, &touched, value, wrote), over_write);
+        assert_eq!(rt; sc(alloc, &alone, value, wrote), without);
+    }
     Ok(())
 }
 
@@ -199,10 +198,8 @@ fn fenced(alloc: Global, addr: u64, ww: bool, wr: bool) -> Result<Stores, AllocE
     Ok(stores)
 }
 
-/// An atomic of hart 0 over an empty image.
-fn after(alloc: Global, s: &Stores, x: AtomicAccess) -> Result<Passed, Misfit>
-    requires { IsTrue (is_atomic_place x.paddr x.width) }
-{
+/// An access of the word at the start of the line, by hart 0 over an empty image.
+fn after(alloc: Global, s: &Stores, x: AtomicAccess) -> Result<Passed, Misfit> {
     let key = Key {
         stamp: 4,
         hart: 0,
@@ -210,6 +207,11 @@ fn after(alloc: Global, s: &Stores, x: AtomicAccess) -> Result<Passed, Misfit>
     };
     let local = Local::new(alloc);
     let m = nothing_written(alloc);
+    let x = AtomicAccess {
+        paddr: LINE,
+        width: 4,
+        ..x
+    };
     atomic(&m, s, &local, None, key, x)
 }
 
@@ -230,15 +232,19 @@ fn atomics_wait_for_stores(rt: HostRuntime) -> Result<(), Fail> {
         ..failed
     };
     let on_line = fenced(alloc, LINE + 8, false, false)?;
-    assert_eq!(rt; after(alloc, &on_line, failed), waits);
     let elsewhere = fenced(alloc, LINE + 64, false, false)?;
-    assert_eq!(rt; after(alloc, &elsewhere, release), waits);
-    assert_eq!(rt; after(alloc, &elsewhere, failed_release), Ok(PLAIN));
     let before_reads = fenced(alloc, LINE + 64, false, true)?;
-    assert_eq!(rt; after(alloc, &before_reads, lr), waits);
-    assert_eq!(rt; after(alloc, &before_reads, failed), Ok(PLAIN));
     let before_writes = fenced(alloc, LINE + 64, true, false)?;
-    assert_eq!(rt; after(alloc, &before_writes, swap), waits);
-    assert_eq!(rt; after(alloc, &before_writes, lr), image);
+    for (stores, x, answer) in [
+        (&on_line, failed, waits),
+        (&elsewhere, release, waits),
+        (&elsewhere, failed_release, Ok(PLAIN)),
+        (&before_reads, lr, waits),
+        (&before_reads, failed, Ok(PLAIN)),
+        (&before_writes, swap, waits),
+        (&before_writes, lr, image),
+    ] {
+        assert_eq!(rt; after(alloc, stores, x), answer);
+    }
     Ok(())
 }

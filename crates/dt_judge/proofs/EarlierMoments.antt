@@ -1,17 +1,15 @@
-use Rattle.std.proofs.Common.{ℕ, ◌≡◌, ◌<◌, ◌||◌, Bool, true, false, Some, List, length, take, Result, Ok, Err, sym, subst, inl, inr}
-use Rattle.std.specs.Prelude.{IfSome}
-use Rattle.std.specs.List.{slice_get}
-use Rattle.std.proofs.lemmas.Option.{slice_get_within}
+use Rattle.std.proofs.Common.{ℕ, ◌||◌, Bool, true, false, Some, List, [], ◌∷◌, length, take, Result, Ok, Err, sym, ap, ◌∙◌, inl, inr}
 use Rattle.dt_record.specs.declared.accesses.LoadAsk.{LoadAsk}
 use Rattle.dt_record.specs.declared.keys.Key.{Key}
-use Rattle.dt_record.specs.declared.origins.Origin.TheVariants as origin
 use Rattle.dt_record.specs.declared.records.Body.{Body}
 use Rattle.dt_record.specs.declared.records.Body.TheVariants.{Commit, Trap, Regs, Csrs, Load, Store, Atomic, Drain, Refill, Beat}
 use Rattle.dt_record.specs.declared.records.Record.{Record}
 use Rattle.dt_record.specs.declared.writes.Write.{Write}
 use Rattle.dt_record.specs.Actions.{Action, Loaded}
 use Rattle.dt_record.specs.Lawful.{is_in_ram}
-use Rattle.dt_record.specs.LoadSources.{KeepsFloor, Rank, origin_at, rank, rank_below}
+use Rattle.dt_atomics.specs.declared.accesses.AtomicAccess.{AtomicAccess}
+use Rattle.dt_atomics.specs.Answers.{AtomicPasses, IsAtomicAnswer}
+use Rattle.dt_atomics.specs.Reading.{ReadsNewer}
 use Rattle.dt_hart.specs.Settings.{Setting, did, key_in}
 use Rattle.dt_loads.specs.declared.reading.Passed.{Passed}
 use Rattle.dt_loads.specs.Checks.{order_check}
@@ -23,52 +21,37 @@ use Rattle.dt_step.specs.declared.plans.Planned.{Planned}
 use Rattle.dt_step.specs.declared.plans.Planned.TheVariants.{Done, NeedsLoad, NeedsStore, NeedsAtomic, Csr, Returns, Fences, FenceI, FencesPages, Raises}
 use Rattle.dt_traps.specs.Instructions.{atomic_access}
 use Rattle.dt_walk.specs.declared.arguments.Access.TheVariants as access
-use Rattle.dt_judge.specs.Atomics.{AtomicAccess, AtomicPasses, ReadsNewer, access_check}
+use Rattle.dt_judge.specs.declared.atomics.Said.{Said}
 use Rattle.dt_judge.specs.Grounds.{Grounds, grounds_of}
 use Rattle.dt_judge.specs.Judgement.{FindsBody, Finds}
-use Rattle.dt_judge.specs.Kinds.{Accesses, AtomicBy, Leads, Loads, LoadsBy, ReadsRam, Said, access_in, accessed, started}
-use Rattle.dt_judge.specs.Laws.{with_moments}
+use Rattle.dt_judge.specs.Kinds.{Accesses, AtomicBy, Leads, Loads, LoadsBy, ReadsRam, access_in, accessed, atomic_on, started}
+use Rattle.dt_judge.specs.Laws.{AgreeAtLoads, with_moments}
+use Rattle.dt_judge.proofs.LoadMoments.{fits_along, same_actions, same_origin, slice_get-append_left}
 
 -- Moments that agree at the hart's loads so far give the same findings.
 
--- they agree below a place
-abbrev pub Agree : (count : ℕ) → (moments others : ℕ → ℕ) → Type 0
-Agree count moments others = (place : ℕ) → place < count → others place ≡ moments place
+back : (actions : List Action) (moments others : ℕ → ℕ) → AgreeAtLoads actions moments others → AgreeAtLoads actions others moments
+back actions moments others agree = λ place ask there. sym (agree place ask there)
 
-back : (count : ℕ) (moments others : ℕ → ℕ) → Agree count moments others → Agree count others moments
-back count moments others agree = λ place within. sym (agree place within)
-
--- whether the byte that an action had is below this rank
-abbrev pub IsBelowRead : List Write → List Action → (place m : ℕ) → (byte : ℕ) → Rank → (moment : ℕ) → Type 0
-IsBelowRead writes actions place m byte own moment =
-    IfSome (slice_get actions m) (λ action. IfSome (origin_at writes (take m actions) moment action byte) (λ o. rank_below own (rank (take place actions) o) ≡ false))
-
-keeps_floor : (writes : List Write) (actions : List Action) (moments others : ℕ → ℕ) (place : ℕ) (ask : LoadAsk) (byte : ℕ) (own : Rank) → Agree place moments others
-    → KeepsFloor writes actions moments place ask byte own → KeepsFloor writes actions others place ask byte own
-keeps_floor writes actions moments others place ask byte own agree keeps = record {
-  reads = λ m before. subst (IsBelowRead writes actions place m byte own) (sym (agree m before)) (keeps.reads m before);
-  own_writes = keeps.own_writes;
-}
-
-fits_next : (image : List ℕ) (writes : List Write) (actions : List Action) (moments others : ℕ → ℕ) (ask : LoadAsk) (k : ℕ) → Agree (length actions) moments others
+fits_next : (image : List ℕ) (writes : List Write) (actions : List Action) (moments others : ℕ → ℕ) (ask : LoadAsk) (k : ℕ) → AgreeAtLoads actions moments others
     → FitsNext image writes actions moments ask k → FitsNext image writes actions others ask k
-fits_next image writes actions moments others ask k agree fits = record {
-  visible = fits.visible;
-  value = fits.value;
-  floor = λ i within. keeps_floor writes (then_action actions (Loaded ask)) moments others (length actions) ask _ _ agree (fits.floor i within);
-}
+fits_next image writes actions moments others ask k agree fits =
+    let longer : List Action = then_action actions (Loaded ask) in
+    fits_along image writes longer longer moments others (length actions) ask k
+    (same_actions (length actions) longer moments others (λ m a before there. agree m a (sym (slice_get-append_left actions (Loaded ask ∷ []) m before) ∙ there))) fits
 
-known_key : (writes : List Write) (actions : List Action) (moments others : ℕ → ℕ) (next : Key) (byte : ℕ) (key : Key) → Agree (length actions) moments others
+known_key : (writes : List Write) (actions : List Action) (moments others : ℕ → ℕ) (next : Key) (byte : ℕ) (key : Key) → AgreeAtLoads actions moments others
     → IsKnownKey writes actions moments next byte key → IsKnownKey writes actions others next byte key
 known_key writes actions moments others next byte key agree (inr wrote) = inr wrote
 known_key writes actions moments others next byte key agree (inl had) = inl (record {
   place = had.place;
   action = had.action;
   there = had.there;
-  had = subst (λ n. origin_at writes (take had.place actions) n had.action byte ≡ Some (origin.Write key)) (sym (agree had.place (slice_get_within actions had.place had.action had.there))) had.had;
+  had = sym (same_origin writes (take had.place actions) (moments had.place) (others had.place) had.action byte
+      (λ ask is. agree had.place ask (had.there ∙ ap Some is))) ∙ had.had;
 })
 
-has_newer : (writes : List Write) (actions : List Action) (moments others : ℕ → ℕ) (ask : LoadAsk) (k : ℕ) → Agree (length actions) moments others
+has_newer : (writes : List Write) (actions : List Action) (moments others : ℕ → ℕ) (ask : LoadAsk) (k : ℕ) → AgreeAtLoads actions moments others
     → HasNewer writes actions moments ask k → HasNewer writes actions others ask k
 has_newer writes actions moments others ask k agree has = (has.0, newer has.1)
   where
@@ -77,13 +60,13 @@ has_newer writes actions moments others ask k agree has = (has.0, newer has.1)
       within = is.within;
       key = is.key;
       from = is.from;
-      above = λ known knows. is.above known (known_key writes actions others moments ask.key _ known (back (length actions) moments others agree) knows);
+      above = λ known knows. is.above known (known_key writes actions others moments ask.key _ known (back actions moments others agree) knows);
     }
 
-reading : (image : List ℕ) (writes : List Write) (actions : List Action) (moments others : ℕ → ℕ) (ask : LoadAsk) (passed : Passed) → Agree (length actions) moments others
+reading : (image : List ℕ) (writes : List Write) (actions : List Action) (moments others : ℕ → ℕ) (ask : LoadAsk) (passed : Passed) → AgreeAtLoads actions moments others
     → IsReading image writes actions moments ask passed → IsReading image writes actions others ask passed
 reading image writes actions moments others ask passed agree is =
-    let again = back (length actions) moments others agree in record {
+    let again = back actions moments others agree in record {
       moment = is.moment;
       fits = fits_next image writes actions moments others ask is.moment agree is.fits;
       least = λ k fits. is.least k (fits_next image writes actions others moments ask k again fits);
@@ -96,11 +79,11 @@ reading image writes actions moments others ask passed agree is =
     }
 
 load_answer : (image : List ℕ) (writes : List Write) (actions : List Action) (moments others : ℕ → ℕ) (ask : LoadAsk) (signed : Bool) (value : ℕ) (answer : Result Passed Misfit)
-    → Agree (length actions) moments others → IsLoadAnswer image writes actions moments ask signed value answer → IsLoadAnswer image writes actions others ask signed value answer
+    → AgreeAtLoads actions moments others → IsLoadAnswer image writes actions moments ask signed value answer → IsLoadAnswer image writes actions others ask signed value answer
 load_answer image writes actions moments others ask signed value (Ok passed) agree is = (is.0, reading image writes actions moments others ask passed agree is.1)
 load_answer image writes actions moments others ask signed value (Err refused) agree (inl differs, why) = (inl differs, why)
 load_answer image writes actions moments others ask signed value (Err refused) agree (inr none, why) =
-    (inr (λ k fits. none k (fits_next image writes actions others moments ask k (back (length actions) moments others agree) fits)), why)
+    (inr (λ k fits. none k (fits_next image writes actions others moments ask k (back actions moments others agree) fits)), why)
 
 -- what leads to a finding leads to the same one
 leads_too : {A : Type 0} (r : Result A Misfit) (Later Other : A → Result Passed Misfit → Type 0) (f : Result Passed Misfit) → ((x : A) → Later x f → Other x f) → Leads r Later f → Leads r Other f
@@ -110,7 +93,7 @@ leads_too (Err refused) Later Other f too is = is
 abbrev at_others : Grounds → (ℕ → ℕ) → Grounds
 at_others g others = record g { moments = others }
 
-module _ (g : Grounds) (others : ℕ → ℕ) (agree : Agree (length g.actions) g.moments others) where
+module _ (g : Grounds) (others : ℕ → ℕ) (agree : AgreeAtLoads g.actions g.moments others) where
   reads_ram : (p : Bool) (ask : LoadAsk) (signed : Bool) (value : ℕ) (f : Result Passed Misfit) → ReadsRam g p ask signed value f → ReadsRam (at_others g others) p ask signed value f
   reads_ram p ask signed value f is = (is.0, is.1, load_answer g.image g.writes g.actions g.moments others ask signed value is.0 agree is.2, is.3)
 
@@ -135,17 +118,17 @@ module _ (g : Grounds) (others : ℕ → ℕ) (agree : Agree (length g.actions) 
   loads_by key stale (FencesPages va all) value at paddr f is = is
   loads_by key stale (Raises cause tval) value at paddr f is = is
 
-  reads_newer : (key : Key) (x : AtomicAccess) → ReadsNewer g key x → ReadsNewer (at_others g others) key x
+  reads_newer : (key : Key) (x : AtomicAccess) → ReadsNewer (atomic_on g) key x → ReadsNewer (atomic_on (at_others g others)) key x
   reads_newer key x is = record {
     reading = is.reading;
     place = is.place;
     within = is.within;
     source = is.source;
     from = is.from;
-    newer = λ known knows. is.newer known (known_key g.writes g.actions others g.moments key _ known (back (length g.actions) g.moments others agree) knows);
+    newer = λ known knows. is.newer known (known_key g.writes g.actions others g.moments key _ known (back g.actions g.moments others agree) knows);
   }
 
-  reads_newer_back : (key : Key) (x : AtomicAccess) → ReadsNewer (at_others g others) key x → ReadsNewer g key x
+  reads_newer_back : (key : Key) (x : AtomicAccess) → ReadsNewer (atomic_on (at_others g others)) key x → ReadsNewer (atomic_on g) key x
   reads_newer_back key x is = record {
     reading = is.reading;
     place = is.place;
@@ -155,12 +138,20 @@ module _ (g : Grounds) (others : ℕ → ℕ) (agree : Agree (length g.actions) 
     newer = λ known knows. is.newer known (known_key g.writes g.actions g.moments others key _ known agree knows);
   }
 
-  passes : (key : Key) (p : Bool) (x : AtomicAccess) (f : Result Passed Misfit) → AtomicPasses g key p x f → AtomicPasses (at_others g others) key p x f
-  passes key p x f is = (is.0, (λ l. reads_newer key x (is.1.0 l), λ has. is.1.1 (reads_newer_back key x has)), is.2)
+  atomic_answer : (key : Key) (x : AtomicAccess) (answer : Result Passed Misfit) → IsAtomicAnswer (atomic_on g) key x answer → IsAtomicAnswer (atomic_on (at_others g others)) key x answer
+  atomic_answer key x (Ok passed) is =
+      let passes : AtomicPasses (atomic_on g) key x passed = is.1 in (
+        is.0,
+        record {
+          newer = (λ l. reads_newer key x (passes.newer.0 l), λ has. passes.newer.1 (reads_newer_back key x has));
+          letters = passes.letters;
+          sources = passes.sources;
+        },
+      )
+  atomic_answer key x (Err refused) is = is
 
   accesses : (key : Key) (p : Bool) (x : AtomicAccess) (f : Result Passed Misfit) → Accesses g key p x f → Accesses (at_others g others) key p x f
-  accesses key p x f is =
-      leads_too (access_check g key x) (λ _ found. AtomicPasses g key p x found) (λ _ found. AtomicPasses (at_others g others) key p x found) f (λ _. passes key p x f) is
+  accesses key p x f is = (is.0, atomic_answer key x is.0 is.1, is.2)
 
   atomic_by : (key : Key) (stale : Bool) (plan : Planned) (said : Said) (f : Result Passed Misfit) → AtomicBy g key stale plan said f → AtomicBy (at_others g others) key stale plan said f
   atomic_by key stale (NeedsAtomic va width op aq rl rd operand) said f is =
@@ -194,5 +185,5 @@ module _ (g : Grounds) (others : ℕ → ℕ) (agree : Agree (length g.actions) 
   finds_body key (Refill line bytes) f is = is
   finds_body key Beat f is = is
 
-pub finds_at_others : (s : Setting) (others : ℕ → ℕ) (r : Record) (f : Result Passed Misfit) → Agree (length (did s)) s.moments others → Finds s r f → Finds (with_moments s others) r f
+pub finds_at_others : (s : Setting) (others : ℕ → ℕ) (r : Record) (f : Result Passed Misfit) → AgreeAtLoads (did s) s.moments others → Finds s r f → Finds (with_moments s others) r f
 finds_at_others s others r f agree is = finds_body (grounds_of s (key_in s r)) others agree (key_in s r) r.body f is

@@ -1,13 +1,14 @@
-use Rattle.std.proofs.Common.{ℕ, ◌≡◌, ◌≤◌, ◌||◌, Bool, true, false, Option, List, ◌++◌, length, take, Result, Ok, Err, IsTrue, refl, sym, ap, subst, ◌∙◌}
-use Rattle.std.proofs.lemmas.Bool.{false≢true}
+use Rattle.std.proofs.Common.{ℕ, ◌≡◌, ◌≤◌, ◌||◌, Bool, true, false, Option, List, ◌++◌, length, take, Result, Ok, Err, IsTrue, refl, sym, ap, subst, ◌∙◌, arith}
 use Rattle.std.proofs.lemmas.List.{take-append-le}
+use Rattle.dt_atomics.specs.declared.accesses.AtomicAccess.{AtomicAccess}
+use Rattle.dt_atomics.specs.Answers.{IsAtomicAnswer}
+use Rattle.dt_atomics.specs.Laws.{FirstWritesDecideAtomics}
 use Rattle.dt_checks.specs.declared.starting.Started.{Started}
 use Rattle.dt_checks.specs.Laws.{BeginAlike, SameAddresses, SameStarts}
 use Rattle.dt_checks.specs.Translating.{walk_args}
 use Rattle.dt_commits.specs.Undrained.{undrained_check}
 use Rattle.dt_commits.specs.Values.{commit_value_check}
 use Rattle.dt_drains.specs.Draining.{store_data_check}
-use Rattle.dt_hart.specs.Built.{is_built_body}
 use Rattle.dt_hart.specs.HartView.{HartView}
 use Rattle.dt_loads.specs.declared.reading.Passed.{Passed}
 use Rattle.dt_loads.specs.Checks.{order_check}
@@ -19,22 +20,27 @@ use Rattle.dt_record.specs.declared.records.Body.TheVariants.{Commit, Trap, Regs
 use Rattle.dt_record.specs.declared.writes.Write.{Write}
 use Rattle.dt_record.specs.Actions.{Action}
 use Rattle.dt_record.specs.Lawful.{is_in_ram}
+use Rattle.dt_refills.specs.Laws.{SameRefills}
+use Rattle.dt_refills.specs.Refilling.{refill_check}
 use Rattle.dt_rules.specs.declared.misfits.Misfit.{Misfit}
 use Rattle.dt_rules.specs.declared.misfits.TheConstants.{NO_LETTERS}
 use Rattle.dt_rules.specs.Checks.{and_then}
 use Rattle.dt_step.specs.declared.plans.Planned.{Planned}
 use Rattle.dt_step.specs.declared.plans.Planned.TheVariants.{Done, NeedsLoad, NeedsStore, NeedsAtomic, Csr, Returns, Fences, FenceI, FencesPages, Raises}
+use Rattle.dt_traps.specs.Instructions.{atomic_access}
 use Rattle.dt_traps.specs.Laws.{SameTraps}
 use Rattle.dt_versions.specs.declared.moments.Span.{Span}
 use Rattle.dt_versions.specs.History.{History, history}
 use Rattle.dt_walk.specs.declared.arguments.Access.{Access}
 use Rattle.dt_walk.specs.declared.arguments.Access.TheVariants as access
+use Rattle.dt_judge.specs.declared.atomics.Said.{Said}
 use Rattle.dt_judge.specs.Grounds.{Grounds}
 use Rattle.dt_judge.specs.Judgement.{FindsBody}
 use Rattle.dt_judge.specs.Judging.{are_later}
-use Rattle.dt_judge.specs.Kinds.{Leads, Loads, LoadsBy, ReadsRam, accessed, passed, started, stored, trap_spans}
-use Rattle.dt_judge.specs.Unfenced.{fetch_from, unfenced}
+use Rattle.dt_judge.specs.Keeping.{fetch_kept, grounds_kept, window_kept}
+use Rattle.dt_judge.specs.Kinds.{Accesses, AtomicBy, Leads, Loads, LoadsBy, ReadsRam, access_in, accessed, atomic_on, fine, passed, refill_finding, seen_by, started, stored, trap_spans}
 use Rattle.dt_judge.proofs.LaterReads.{Steady, answer_more}
+use Rattle.dt_judge.proofs.LaterWrites.{first_same, last_same, last_within}
 
 -- What is found of a record is the same with writes of later cycles.
 
@@ -43,6 +49,8 @@ pub record CheckLaws : Type 0 where
   pub starts : SameStarts
   pub addresses : SameAddresses
   pub traps : SameTraps
+  pub atomics : FirstWritesDecideAtomics
+  pub refills : SameRefills
 
 leads_too : {A : Type 0} (r : Result A Misfit) (Later Other : A → Result Passed Misfit → Type 0) (f : Result Passed Misfit) → ((x : A) → Later x f → Other x f) → Leads r Later f → Leads r Other f
 leads_too (Ok x) Later Other f too is = too x is
@@ -53,25 +61,25 @@ abbrev pub ReadsUntil : ℕ → Body → Type 0
 ReadsUntil stamp (Load retire at paddr) = at ≤ stamp
 ReadsUntil stamp body = Unit {0}
 
-module _ (laws : CheckLaws) (h : HartView) (m : History) (later : List Write) (stamp : ℕ) (after : IsTrue (are_later stamp later)) (seen : Span) (within : seen.last ≤ length m.writes)
-    (actions : List Action) (moments : ℕ → ℕ) (reserved : Option (ℕ × Key)) (steady : Steady m.writes later actions moments) where
+module _ (laws : CheckLaws) (h : HartView) (m : History) (later : List Write) (stamp : ℕ) (after : IsTrue (are_later stamp later)) (last : ℕ) (within : last ≤ length m.writes)
+    (actions : List Action) (moments : ℕ → ℕ) (steady : Steady m.writes later actions moments) where
   abbrev few : Grounds
-  few = unfenced h m seen actions moments reserved
+  few = grounds_kept h m last actions moments
 
   abbrev pub more : Grounds
-  more = unfenced h (history m.image (m.writes ++ later)) seen actions moments reserved
+  more = grounds_kept h (history m.image (m.writes ++ later)) last actions moments
 
-  begins : take seen.last m.writes ≡ take seen.last (m.writes ++ later)
-  begins = sym (take-append-le seen.last m.writes later within)
+  begins : take last m.writes ≡ take last (m.writes ++ later)
+  begins = sym (take-append-le last m.writes later within)
 
-  begin_alike : BeginAlike (fetch_from seen) m.writes (m.writes ++ later)
+  begin_alike : BeginAlike (fetch_kept h last) m.writes (m.writes ++ later)
   begin_alike = record { first = begins; second = begins; since = begins }
 
   started_same : (pc bits tag : ℕ) → started few pc bits tag ≡ started more pc bits tag
-  started_same pc bits tag = laws.starts m.image m.writes (m.writes ++ later) (fetch_from seen) h.arch pc bits tag begin_alike
+  started_same pc bits tag = laws.starts m.image m.writes (m.writes ++ later) (fetch_kept h last) h.arch pc bits tag begin_alike
 
   accessed_same : (a : Access) (ram_only : Bool) (va paddr : ℕ) → accessed few a ram_only va paddr ≡ accessed more a ram_only va paddr
-  accessed_same a ram_only va paddr = laws.addresses m.image m.writes (m.writes ++ later) seen (walk_args h.arch a va) ram_only paddr begins
+  accessed_same a ram_only va paddr = laws.addresses m.image m.writes (m.writes ++ later) (window_kept h last va) (walk_args h.arch a va) ram_only paddr begins
 
   stored_same : (stale : Bool) (plan : Planned) (paddr value : ℕ) → stored few stale plan paddr value ≡ stored more stale plan paddr value
   stored_same stale (NeedsStore va width due) paddr value =
@@ -111,25 +119,65 @@ module _ (laws : CheckLaws) (h : HartView) (m : History) (later : List Write) (s
   loads_by key stale (FencesPages va all) value at paddr f before early is = is
   loads_by key stale (Raises cause tval) value at paddr f before early is = is
 
-  pub finds_more : (key : Key) (b : Body) (f : Result Passed Misfit) → IsTrue (is_built_body b) → ReadsUntil stamp b → key.stamp ≤ stamp → FindsBody few key b f → FindsBody more key b f
-  finds_more key (Commit retire) f built at early is =
+  -- an atomic takes place at its key
+  atomic_answer : (key : Key) (x : AtomicAccess) (answer : Result Passed Misfit) → key.stamp ≡ stamp → IsAtomicAnswer (atomic_on few) key x answer → IsAtomicAnswer (atomic_on more) key x answer
+  atomic_answer key x answer now is = (laws.atomics (atomic_on few) later key x answer (subst (λ n. IsTrue (are_later n later)) (sym now) after) steady).0 is
+
+  atomic_by : (key : Key) (stale : Bool) (plan : Planned) (said : Said) (f : Result Passed Misfit) → key.stamp ≡ stamp → AtomicBy few key stale plan said f → AtomicBy more key stale plan said f
+  atomic_by key stale (NeedsAtomic va width op aq rl rd operand) said f now is =
+      let x : AtomicAccess = access_in op width rl operand said in
+      leads_too (accessed more (atomic_access op) true va said.paddr) (λ older found. Accesses few key (stale || older) x found) (λ older found. Accesses more key (stale || older) x found) f
+      (λ older at. (at.0, atomic_answer key x at.0 now at.1, at.2))
+      (subst (λ r. Leads r (λ older found. Accesses few key (stale || older) x found) f) (accessed_same (atomic_access op) true va said.paddr) is)
+  atomic_by key stale (Done rd due next) said f now is = is
+  atomic_by key stale (NeedsLoad va width signed rd) said f now is = is
+  atomic_by key stale (NeedsStore va width due) said f now is = is
+  atomic_by key stale (Csr number op operand reads writes rd) said f now is = is
+  atomic_by key stale (Returns from_m) said f now is = is
+  atomic_by key stale (Fences ww wr rr) said f now is = is
+  atomic_by key stale FenceI said f now is = is
+  atomic_by key stale (FencesPages va all) said f now is = is
+  atomic_by key stale (Raises cause tval) said f now is = is
+
+  -- what a record of this cycle may see is the same
+  seen_same : (key : Key) → key.stamp ≡ stamp → seen_by m.writes key ≡ seen_by (m.writes ++ later) key
+  seen_same key now =
+      let early : key.stamp ≤ stamp = omega arith in
+      let first = first_same m.writes later stamp after key key.stamp early in
+      let end = last_same m.writes later stamp after key key.stamp early in
+      sym (λ i. record { first = first i; last = end i })
+
+  refilled_same : (key : Key) (line : ℕ) (bytes : List ℕ) → key.stamp ≡ stamp → refill_finding few key line bytes ≡ refill_finding more key line bytes
+  refilled_same key line bytes now =
+      let seen = seen_by m.writes key in
+      let within_seen = last_within m.writes later stamp after key key.stamp in
+      ap (λ (r : Result (Unit {0}) Misfit). and_then r fine)
+      (laws.refills m.image m.writes (m.writes ++ later) seen line bytes (sym (take-append-le seen.last m.writes later within_seen))
+      ∙ ap (λ (s : Span). refill_check m.image (m.writes ++ later) s line bytes) (seen_same key now))
+
+  pub finds_more : (key : Key) (b : Body) (f : Result Passed Misfit) → ReadsUntil stamp b → key.stamp ≡ stamp → FindsBody few key b f → FindsBody more key b f
+  finds_more key (Commit retire) f at now is =
       is ∙ ap (λ r. and_then r (λ (st : Started).
       and_then (undrained_check actions st.plan key.stamp key.seq) (λ _.
       and_then (commit_value_check h.arch st.plan retire.value) (λ adopted.
       passed (record NO_LETTERS { p = st.stale; c = adopted }))))) (started_same retire.pc retire.bits 1)
-  finds_more key (Trap pc bits cause tval) f built at early is =
+  finds_more key (Trap pc bits cause tval) f at now is =
       is ∙ ap (λ r. and_then r passed) (laws.traps m.image m.writes (m.writes ++ later) (trap_spans few bits) h.arch pc bits cause tval (record { fetch = begin_alike; access = begins }))
-  finds_more key (Regs pc x) f built at early is = is
-  finds_more key (Csrs mode v) f built at early is = is
-  finds_more key (Load retire at paddr) f built before early is =
+  finds_more key (Regs pc x) f at now is = is
+  finds_more key (Csrs mode v) f at now is = is
+  finds_more key (Load retire at paddr) f before now is =
       leads_too (started more retire.pc retire.bits 5) (λ st found. LoadsBy few key st.stale st.plan retire.value at paddr found) (λ st found. LoadsBy more key st.stale st.plan retire.value at paddr found) f
-      (λ st. loads_by key st.stale st.plan retire.value at paddr f before early)
+      (λ st. loads_by key st.stale st.plan retire.value at paddr f before (omega arith))
       (subst (λ r. Leads r (λ (st : Started) found. LoadsBy few key st.stale st.plan retire.value at paddr found) f) (started_same retire.pc retire.bits 5) is)
-  finds_more key (Store pc bits paddr value) f built at early is =
+  finds_more key (Store pc bits paddr value) f at now is =
       let later_part : (λ (st : Started). stored few st.stale st.plan paddr value) ≡ (λ (st : Started). stored more st.stale st.plan paddr value) = λ i st. stored_same st.stale st.plan paddr value i in
       is ∙ ap (λ r. and_then r (λ (st : Started). stored few st.stale st.plan paddr value)) (started_same pc bits 6)
       ∙ ap (λ (then : Started → Result Passed Misfit). and_then (started more pc bits 6) then) later_part
-  finds_more key (Atomic retire paddr width wrote new) f built at early is = absurd (false≢true built)
-  finds_more key (Drain line mask count bytes) f built at early is = is
-  finds_more key (Refill line bytes) f built at early is = absurd (false≢true built)
-  finds_more key Beat f built at early is = is
+  finds_more key (Atomic retire paddr width wrote new) f at now is =
+      let said : Said = record { value = retire.value; paddr = paddr; width = width; wrote = wrote; new = new } in
+      leads_too (started more retire.pc retire.bits 7) (λ st found. AtomicBy few key st.stale st.plan said found) (λ st found. AtomicBy more key st.stale st.plan said found) f
+      (λ st. atomic_by key st.stale st.plan said f now)
+      (subst (λ r. Leads r (λ (st : Started) found. AtomicBy few key st.stale st.plan said found) f) (started_same retire.pc retire.bits 7) is)
+  finds_more key (Drain line mask count bytes) f at now is = is
+  finds_more key (Refill line bytes) f at now is = is ∙ refilled_same key line bytes now
+  finds_more key Beat f at now is = is

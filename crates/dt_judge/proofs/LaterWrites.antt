@@ -1,23 +1,23 @@
-use Rattle.std.proofs.Common.{ℕ, ◌≡◌, ◌+◌, ◌*◌, ◌≤◌, ◌&&◌, Bool, true, false, not, List, [], ◌∷◌, ◌++◌, length, take, drop, zero, suc, IsTrue, refl, sym, ap, subst, ◌∙◌, inl, inr, arith}
+use Rattle.std.proofs.Common.{ℕ, ◌≡◌, ◌+◌, ◌-◌, ◌*◌, ◌≤◌, ◌&&◌, Bool, true, false, not, List, [], ◌∷◌, ◌++◌, length, take, drop, zero, suc, IsTrue, refl, sym, ap, subst, ◌∙◌, inl, inr, append_assoc, filter, arith}
 use Rattle.std.specs.Prelude.{Contains, nat_lt}
-use Rattle.std.specs.List.{list_all, prefix_len}
+use Rattle.std.specs.List.{list_all, prefix_len, suffix_len}
 use Rattle.std.specs.Option.{option_map_or}
-use Rattle.std.proofs.lemmas.Bool.{and_parts, cases_Bool}
+use Rattle.std.proofs.lemmas.Bool.{and_parts, cases_Bool, cond-true}
 use Rattle.std.proofs.lemmas.Bool.Decides.{nat_tests}
-use Rattle.std.proofs.lemmas.List.{length-append, take-append-le, drop-append-le}
-use Rattle.std.proofs.lemmas.List.Elements.{All-contains, Contains-append_cases, Contains-append_left}
+use Rattle.std.proofs.lemmas.List.{append-nil, length-append, take-append-le, drop-append-le, reverse-append}
+use Rattle.std.proofs.lemmas.List.Elements.{All-contains, Contains-append_cases, Contains-append_left, filter-append}
 use Rattle.std.proofs.lemmas.List.Folds.{list_all-append}
 use Rattle.std.proofs.lemmas.List.Sums.{AllPass-from_list_all, prefix_len-le-length}
 use Rattle.dt_record.specs.declared.accesses.LoadAsk.{LoadAsk}
 use Rattle.dt_record.specs.declared.keys.Key.{Key}
 use Rattle.dt_record.specs.declared.writes.Write.{Write}
 use Rattle.dt_record.specs.Actions.{Action, forwarded}
-use Rattle.dt_record.specs.Keys.{KeyBelow}
+use Rattle.dt_record.specs.Keys.{KeyBelow, key_below}
 use Rattle.dt_record.specs.LoadSources.{found_byte, found_value, origin_of, stored_byte}
-use Rattle.dt_record.specs.Memory.{memory_at, source_at}
+use Rattle.dt_record.specs.Memory.{memory_at, moment_of, source_at}
 use Rattle.dt_record.specs.Visible.{IsVisible, cannot_see, must_see}
 use Rattle.dt_sources.specs.Knowing.{WroteBefore}
-use Rattle.dt_versions.specs.Spans.{last_visible}
+use Rattle.dt_versions.specs.Spans.{first_visible, last_visible}
 use Rattle.dt_judge.specs.Judging.{are_later}
 use Rattle.dt_judge.proofs.LastVisible.{within_prefix}
 
@@ -50,9 +50,41 @@ needless stamp at key w early later = grind (arith, nat_tests)
 below_stamp : (a b : Key) → KeyBelow a b → a.stamp ≤ b.stamp
 below_stamp a b below = grind (arith, nat_tests)
 
+-- what is left of a list before its last elements that pass, where more that pass follow
+one_stays : {X : Type 0} (p : X → Bool) (xs : List X) (y : X) → p y ≡ true → length (xs ++ y ∷ []) - suffix_len p (xs ++ y ∷ []) ≡ length xs - suffix_len p xs
+one_stays p xs y passes =
+    let longer : suffix_len p (xs ++ y ∷ []) ≡ 1 + suffix_len p xs = ap (prefix_len p) (reverse-append xs (y ∷ [])) ∙ cond-true (p y) (1 + suffix_len p xs) 0 passes in
+    omega (arith, length-append xs (y ∷ []))
+
+first_stays : {X : Type 0} (p also : X → Bool) (xs ys : List X) → ((y : X) → IsTrue (also y) → IsTrue (p y)) → IsTrue (list_all also ys)
+    → length (xs ++ ys) - suffix_len p (xs ++ ys) ≡ length xs - suffix_len p xs
+first_stays p also xs [] passes all = ap (λ zs. length zs - suffix_len p zs) (append-nil xs)
+first_stays p also xs (y ∷ ys) passes all =
+    let parts = and_parts (also y) (list_all also ys) all in
+    ap (λ zs. length zs - suffix_len p zs) (sym (append_assoc xs (y ∷ []) ys))
+    ∙ first_stays p also (xs ++ y ∷ []) ys passes parts.1
+    ∙ one_stays p xs y (passes y parts.0)
+
+none_kept : {X : Type 0} (p stops : X → Bool) (xs : List X) → ((x : X) → IsTrue (stops x) → p x ≡ false) → IsTrue (list_all stops xs) → filter p xs ≡ []
+none_kept p stops [] fails all = refl
+none_kept p stops (x ∷ xs) fails all =
+    let parts = and_parts (stops x) (list_all stops xs) all in
+    rw (fails x parts.0) (none_kept p stops xs fails parts.1)
+
+few_kept : {X : Type 0} (p : X → Bool) (xs : List X) → length (filter p xs) ≤ length xs
+few_kept p [] = omega arith
+few_kept p (x ∷ xs) = let less = few_kept p xs in elim (cases_Bool (p x)) [ inl passes ↦ rw passes (omega arith) | inr stops ↦ rw stops (omega arith) ]
+
+-- a write of a later cycle has no key below one of an earlier cycle
+not_below : (stamp : ℕ) (key : Key) (w : Write) → key.stamp ≤ stamp → IsTrue (nat_lt stamp w.key.stamp) → key_below w.key key ≡ false
+not_below stamp key w early later = grind (arith, nat_tests)
+
 module _ (ws later : List Write) (stamp : ℕ) (after : IsTrue (are_later stamp later)) where
   pub last_same : (key : Key) (at : ℕ) → at ≤ stamp → last_visible (ws ++ later) key at ≡ last_visible ws key at
   last_same key at early = prefix_stops (λ w. not (cannot_see key at w)) (λ w. nat_lt stamp w.key.stamp) ws later (λ w is. hidden stamp at key w early is) after
+
+  pub first_same : (key : Key) (at : ℕ) → at ≤ stamp → first_visible (ws ++ later) key at ≡ first_visible ws key at
+  first_same key at early = first_stays (λ w. not (must_see key at w)) (λ w. nat_lt stamp w.key.stamp) ws later (λ w is. needless stamp at key w early is) after
 
   pub last_within : (key : Key) (at : ℕ) → last_visible ws key at ≤ length ws
   last_within key at = prefix_len-le-length (λ w. not (cannot_see key at w)) ws
@@ -93,6 +125,17 @@ module _ (ws later : List Write) (stamp : ℕ) (after : IsTrue (are_later stamp 
 
   pub source_same : (k addr : ℕ) → k ≤ length ws → source_at (ws ++ later) k addr ≡ source_at ws k addr
   source_same k addr within = rw (take-append-le k ws later within) refl
+
+  moment_same : (key : Key) → key.stamp ≤ stamp → moment_of (ws ++ later) key ≡ moment_of ws key
+  moment_same key early =
+      let test : Write → Bool = λ w. key_below w.key key in
+      let none : filter test later ≡ [] = none_kept test (λ w. nat_lt stamp w.key.stamp) later (λ w is. not_below stamp key w early is) after in
+      ap length (filter-append test ws later ∙ ap (λ vs. filter test ws ++ vs) none ∙ append-nil (filter test ws))
+
+  -- where an atomic has a byte from
+  pub own_source_same : (key : Key) (byte : ℕ) → key.stamp ≤ stamp → source_at (ws ++ later) (moment_of (ws ++ later) key) byte ≡ source_at ws (moment_of ws key) byte
+  own_source_same key byte early =
+      ap (λ k. source_at (ws ++ later) k byte) (moment_same key early) ∙ source_same (moment_of ws key) byte (few_kept (λ w. key_below w.key key) ws)
 
   pub origin_same : (before : List Action) (ask : LoadAsk) (k byte : ℕ) → k ≤ length ws → origin_of (ws ++ later) before ask k byte ≡ origin_of ws before ask k byte
   origin_same before ask k byte within = rw (source_same k byte within) refl

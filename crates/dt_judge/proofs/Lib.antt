@@ -1,11 +1,14 @@
+mod AtomicReads
 mod EarlierMoments
-mod Fenceless
+mod FirstVisible
 mod LastVisible
 mod LaterFindings
 mod LaterReads
 mod LaterWrites
 mod Leading
+mod LoadMoments
 mod Meeting
+mod OneEnd
 mod OneFinding
 mod Placing
 mod Readings

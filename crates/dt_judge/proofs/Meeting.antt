@@ -1,5 +1,5 @@
-use Rattle.std.proofs.Common.{ℕ, ◌≡◌, ◌≤◌, ◌&&◌, Bool, true, Option, None, Some, List, ◌++◌, length, Result, IsTrue, sym, ap, subst, ◌∙◌, arith}
-use Rattle.std.specs.Prelude.{nat_le}
+use Rattle.std.proofs.Common.{ℕ, ◌≡◌, ◌+◌, ◌≤◌, ◌&&◌, true, Option, None, Some, List, ◌++◌, length, Result, IsTrue, refl, sym, ap, subst, ◌∙◌, arith}
+use Rattle.std.specs.Prelude.{IfSome, nat_le}
 use Rattle.std.specs.List.{list_all}
 use Rattle.std.specs.Option.{option_to_list}
 use Rattle.std.proofs.lemmas.Bool.{and_parts}
@@ -12,35 +12,30 @@ use Rattle.dt_record.specs.declared.writes.Write.{Write}
 use Rattle.dt_record.specs.Actions.{Action, Stored, Drained, Fenced, Loaded, Atomic}
 use Rattle.dt_record.specs.Keys.{key_of}
 use Rattle.dt_record.specs.Lawful.{is_lawful}
-use Rattle.dt_hart.specs.Built.{is_built}
+use Rattle.dt_record.specs.LoadSources.{origin_of_key}
+use Rattle.dt_hart.specs.Fences.{fence_in}
 use Rattle.dt_hart.specs.HartView.{HartView}
 use Rattle.dt_hart.specs.OwnWrites.{GoesOn}
 use Rattle.dt_hart.specs.Settings.{Setting, arch_of, did, does, key_in}
 use Rattle.dt_hart.specs.Standing.{KnowsAt, KnowsAtNext, StandsFor}
-use Rattle.dt_hart.specs.Taking.{IsRead, WasJudged}
+use Rattle.dt_hart.specs.Taking.{IsFirstSeen, IsRead, WasJudged}
 use Rattle.dt_loads.specs.declared.reading.Passed.{Passed}
 use Rattle.dt_local.specs.LocalMemory.{local_memory}
-use Rattle.dt_reference.specs.Run.{start_of}
 use Rattle.dt_rules.specs.declared.misfits.Misfit.{Misfit}
-use Rattle.dt_step.specs.declared.plans.Planned.{Planned}
 use Rattle.dt_versions.specs.declared.moments.Span.{Span}
 use Rattle.dt_versions.specs.History.{History, history}
-use Rattle.dt_judge.specs.Grounds.{Grounds, grounds_of}
+use Rattle.dt_versions.specs.Spans.{first_visible, last_visible}
+use Rattle.dt_judge.specs.Grounds.{Grounds, grounds_of, window_of}
 use Rattle.dt_judge.specs.Judgement.{Finds, FindsBody}
-use Rattle.dt_judge.specs.Judging.{Meets, are_built}
-use Rattle.dt_hart.specs.Reserving.{reserved_in}
-use Rattle.dt_judge.specs.Unfenced.{IsReadIn, Remembers, WasFound, seen_until, unfenced}
-use Rattle.dt_judge.specs.Windows.{covers_page, is_instruction_fence, last_fence, span_from}
-use Rattle.dt_judge.proofs.Fenceless.{OfFences, none_planned, of_instruction_fences, of_page_fences}
+use Rattle.dt_judge.specs.Judging.{Meets}
+use Rattle.dt_judge.specs.Keeping.{IsReadIn, Remembers, WasFound, grounds_kept, window_kept}
+use Rattle.dt_judge.specs.Kinds.{seen_by}
 use Rattle.dt_judge.proofs.LaterFindings.{CheckLaws, finds_more}
 use Rattle.dt_judge.proofs.LaterReads.{Steady, judged_less, knows_less, reading_more}
-use Rattle.dt_judge.proofs.LaterWrites.{last_same, last_within}
+use Rattle.dt_judge.proofs.LaterWrites.{first_same, last_same, last_within, own_source_same}
 use Rattle.dt_judge.proofs.SeenActions.{all_seen, is_seen, record_reads, record_seen, steady}
 
 -- What is found from what is kept is what the judgement finds of a setting.
-
-unfenced_span : (s : Setting) (key : Key) (test : Planned → Bool) → OfFences test → IsTrue (are_built s.before) → span_from s key (last_fence test s) ≡ seen_until s.writes key
-unfenced_span s key test of built = ap (span_from s key) (none_planned test of (start_of s.hart s.wide) 0 s.before built)
 
 -- the setting, with the memory's image and writes in the place of its own
 abbrev settled : History → Setting → List Write → Setting
@@ -50,15 +45,19 @@ is_settled : (h : HartView) (m : History) (s : Setting) (r : Record) (meets : Me
 is_settled h m s r meets = λ i. record s { image = meets.image i; writes = meets.writes i }
 
 -- what a body is found to be, whatever the hart did
-abbrev pub FoundAs : HartView → History → (seq : ℕ) → Record → Result Passed Misfit → Type 0
-FoundAs h m seq r f =
-    (actions : List Action) (moments : ℕ → ℕ) (reserved : Option (ℕ × Key)) → Remembers h m.writes (key_of seq r) actions moments
-    → FindsBody (unfenced h m (seen_until m.writes (key_of seq r)) actions moments reserved) (key_of seq r) r.body f
+abbrev pub FoundAs : HartView → History → (seq last : ℕ) → Record → Result Passed Misfit → Type 0
+FoundAs h m seq last r f =
+    (actions : List Action) (moments : ℕ → ℕ) → Remembers h m.writes (key_of seq r) actions moments
+    → FindsBody (grounds_kept h m last actions moments) (key_of seq r) r.body f
 
 abbrev pub FoundOf : HartView → History → (seq : ℕ) → Record → Sources → Type 0
 FoundOf h m seq r sources =
     (actions : List Action) (moments : ℕ → ℕ) → Remembers h m.writes (key_of seq r) actions moments
     → WasFound m.image m.writes actions moments (key_of seq r) r.body sources
+
+if_some : {X : Type 0} (o : Option X) (P : X → Type 0) → ((x : X) → P x) → IfSome o P
+if_some None P holds = tt
+if_some (Some x) P holds = holds x
 
 is_at_most : {a b : ℕ} → IsTrue (nat_le a b) → a ≤ b
 is_at_most {a} {b} below = grind (arith, nat_tests)
@@ -81,34 +80,37 @@ module _ (laws : Laws) (h : HartView) (m : History) (s : Setting) (r : Record) (
   same_origins : Steady m.writes meets.later (did s) s.moments
   same_origins =
       steady m.writes meets.later r.stamp meets.after m.image (did s) s.moments
-      (all_seen s.before r meets.goes_on.more meets.goes_on.rising meets.built meets.lawful) stands_there.chosen.fits
+      (all_seen s.before r meets.goes_on.more meets.goes_on.rising meets.lawful) stands_there.chosen.fits
+
+  -- the last moment that the record may see
+  abbrev end : ℕ
+  end = (seen_by m.writes (key_in s r)).last
 
   -- the grounds are seen from what is kept
-  same_grounds : grounds_of there (key_in s r)
-      ≡ unfenced h (history m.image (m.writes ++ meets.later)) (seen_until m.writes (key_in s r)) (did s) s.moments (reserved_in s.before)
+  same_grounds : grounds_of there (key_in s r) ≡ grounds_kept h (history m.image (m.writes ++ meets.later)) end (did s) s.moments
   same_grounds = λ i. record {
     image = m.image;
     writes = m.writes ++ meets.later;
     arch = arch i;
     actions = did s;
     moments = s.moments;
-    reserved = reserved_in s.before;
+    reserved = sym meets.stands.reserved i;
     fetch = record {
-      first = spans (covers_page (arch_of s).pc) (of_page_fences (arch_of s).pc) i;
-      second = spans (covers_page (sum_of 64 (arch_of s).pc 2)) (of_page_fences (sum_of 64 (arch_of s).pc 2)) i;
-      since = spans is_instruction_fence of_instruction_fences i;
+      first = window (arch i).pc i;
+      second = window (sum_of 64 (arch i).pc 2) i;
+      since = record { first = sym stands_there.windows.instructions i; last = last i };
     };
-    window = λ va. spans (covers_page va) (of_page_fences va) i;
+    window = λ va. window va i;
   }
     where
       arch : arch_of s ≡ h.arch
       arch = sym meets.stands.arch
 
-      until : ℕ → Span
-      until last = record { first = 0; last = last }
+      last : last_visible (m.writes ++ meets.later) (key_in s r) r.stamp ≡ end
+      last = last_same m.writes meets.later r.stamp meets.after (key_in s r) r.stamp (omega arith)
 
-      spans : (test : Planned → Bool) → OfFences test → span_from there (key_in s r) (last_fence test there) ≡ seen_until m.writes (key_in s r)
-      spans test of = unfenced_span there (key_in s r) test of meets.built ∙ ap until (last_same m.writes meets.later r.stamp meets.after (key_in s r) r.stamp (omega arith))
+      window : (va : ℕ) → window_of there (key_in s r) va ≡ window_kept h end va
+      window va = λ i. record { first = sym (stands_there.windows.pages va) i; last = last i }
 
   -- what is kept remembers what the hart did
   remembers : Remembers h m.writes (key_in s r) (did s) s.moments
@@ -121,13 +123,14 @@ module _ (laws : Laws) (h : HartView) (m : History) (s : Setting) (r : Record) (
         judged = judged_less m.writes meets.later r.stamp meets.after (did s) s.moments same_origins (key_in s r) (omega arith) known.judged;
       }
 
-  pub finds : (seq : ℕ) (f : Result Passed Misfit) → IsTrue (is_built r) → IsTrue (is_lawful r) → seq ≡ h.seq → FoundAs h m seq r f → Finds s r f
-  finds seq f built lawful is found =
-      let its : FoundAs h m (length s.before) r f = subst (λ n. FoundAs h m n r f) (is ∙ meets.stands.seq) found in
-      let few = its (did s) s.moments (reserved_in s.before) remembers in
+  pub finds : (seq : ℕ) (seen : Span) (f : Result Passed Misfit) → IsTrue (is_lawful r) → seq ≡ h.seq → seen ≡ seen_by m.writes (key_of seq r) → FoundAs h m seq seen.last r f → Finds s r f
+  finds seq seen f lawful is saw found =
+      let here : FoundAs h m seq (seen_by m.writes (key_of seq r)).last r f = subst (λ (span : Span). FoundAs h m seq span.last r f) saw found in
+      let its : FoundAs h m (length s.before) end r f = subst (λ n. FoundAs h m n (seen_by m.writes (key_of n r)).last r f) (is ∙ meets.stands.seq) here in
+      let few = its (did s) s.moments remembers in
       let more =
-      finds_more laws.checks h m meets.later r.stamp meets.after (seen_until m.writes (key_in s r)) (last_within m.writes meets.later r.stamp meets.after (key_in s r) r.stamp) (did s) s.moments (reserved_in s.before) same_origins (key_in s r) r.body f built
-      (record_reads r lawful) (omega arith) few in
+      finds_more laws.checks h m meets.later r.stamp meets.after end (last_within m.writes meets.later r.stamp meets.after (key_in s r) r.stamp) (did s) s.moments same_origins (key_in s r) r.body f
+      (record_reads r lawful) refl few in
       subst (λ (x : Setting). Finds x r f) (sym (is_settled h m s r meets)) (subst (λ (g : Grounds). FindsBody g (key_in s r) r.body f) (sym same_grounds) more)
 
   read_action : (action : Option Action) (sources : Sources) → IsTrue (list_all (is_seen r.stamp) (option_to_list action)) → IsReadIn m.image m.writes (did s) s.moments action sources
@@ -142,13 +145,24 @@ module _ (laws : Laws) (h : HartView) (m : History) (s : Setting) (r : Record) (
   read_action (Some (Stored store)) sources seen read = (0, tt)
   read_action (Some (Drained key line count)) sources seen read = (0, tt)
   read_action (Some (Fenced ww wr rr)) sources seen read = (0, tt)
-  read_action (Some (Atomic key addr width reads acquires)) sources seen read = (0, tt)
+  read_action (Some (Atomic key addr width reads acquires)) sources seen read =
+      let parts = and_parts (nat_le key.stamp r.stamp) true seen in
+      (0, λ is i within. read is i within ∙ ap (λ source. Some (origin_of_key source)) (sym (own_source_same m.writes meets.later r.stamp meets.after key (addr + i) (is_at_most parts.0))))
+
+  -- the least moment that the hart may see at the record
+  first_seen : IsFirstSeen there r (seen_by m.writes (key_in s r)).first
+  first_seen =
+      if_some (fence_in (arch_of s) r.body) (λ plan. (seen_by m.writes (key_in s r)).first ≡ first_visible (m.writes ++ meets.later) (key_in s r) r.stamp)
+      (λ plan. sym (first_same m.writes meets.later r.stamp meets.after (key_in s r) r.stamp (omega arith)))
 
   -- the record was judged, at some moment
-  pub was_judged : (seq : ℕ) (sources : Sources) → IsTrue (is_built r) → IsTrue (is_lawful r) → seq ≡ h.seq → FoundOf h m seq r sources → (moment : ℕ) × WasJudged s r moment sources
-  was_judged seq sources built lawful is found =
+  pub was_judged : (seq : ℕ) (seen : Span) (sources : Sources) → IsTrue (is_lawful r) → seq ≡ h.seq → seen ≡ seen_by m.writes (key_of seq r) → FoundOf h m seq r sources
+      → (moment : ℕ) × WasJudged s r moment sources seen.first
+  was_judged seq seen sources lawful is saw found =
       let its : FoundOf h m (length s.before) r sources = subst (λ n. FoundOf h m n r sources) (is ∙ meets.stands.seq) found in
+      let least : seen ≡ seen_by m.writes (key_in s r) = subst (λ n. seen ≡ seen_by m.writes (key_of n r)) (is ∙ meets.stands.seq) saw in
       let all = its (did s) s.moments remembers in
-      let read = read_action (does s r) sources (record_seen (length s.before) r built lawful) all.is_read in
-      let judged : WasJudged there r read.0 sources = record { is_read = read.1; is_drained = all.is_drained } in
-      (read.0, subst (λ (x : Setting). WasJudged x r read.0 sources) (sym (is_settled h m s r meets)) judged)
+      let read = read_action (does s r) sources (record_seen (length s.before) r lawful) all.is_read in
+      let judged : WasJudged there r read.0 sources seen.first =
+      record { is_read = read.1; is_drained = all.is_drained; is_first = subst (λ (span : Span). IsFirstSeen there r span.first) (sym least) first_seen } in
+      (read.0, subst (λ (x : Setting). WasJudged x r read.0 sources seen.first) (sym (is_settled h m s r meets)) judged)

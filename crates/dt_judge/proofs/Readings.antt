@@ -21,7 +21,7 @@ use Rattle.dt_step.specs.declared.state.Arch.{Arch}
 use Rattle.dt_walk.specs.declared.arguments.Access.TheVariants as access
 use Rattle.dt_judge.specs.Grounds.{Grounds}
 use Rattle.dt_judge.specs.Kinds.{Loads, LoadsBy, accessed, with_p}
-use Rattle.dt_judge.specs.Unfenced.{HasReading, IsReadBy, IsReadIn, Remembers}
+use Rattle.dt_judge.specs.Keeping.{HasReading, IsReadBy, IsReadIn, Remembers}
 use Rattle.dt_judge.proofs.Leading.{if_ok, leads_ok}
 use Rattle.dt_judge.proofs.Placing.{differs, only_load}
 use Rattle.dt_judge.proofs.Widths.{retired_width}

@@ -2,14 +2,13 @@ use Rattle.std.proofs.Common.{ℕ, ◌≡◌, ◌+◌, ◌≤◌, ◌&&◌, Bool
 use Rattle.std.specs.Prelude.{Contains, nat_le, nat_lt}
 use Rattle.std.specs.List.{list_all, slice_get}
 use Rattle.std.specs.Option.{option_to_list}
-use Rattle.std.proofs.lemmas.Bool.{and_parts, cases_Bool, false≢true}
+use Rattle.std.proofs.lemmas.Bool.{and_parts, cases_Bool}
 use Rattle.std.proofs.lemmas.Bool.Decides.{nat_tests}
 use Rattle.std.proofs.lemmas.List.Elements.{Contains-append_right}
 use Rattle.std.proofs.lemmas.List.Folds.{list_all-append}
 use Rattle.std.proofs.lemmas.Option.{get_or_from_slice_get, slice_get_within}
 use Rattle.dt_decode.specs.declared.instructions.Instr.{Instr}
 use Rattle.dt_decode.specs.declared.instructions.Instr.TheVariants.{Fence}
-use Rattle.dt_hart.specs.Built.{is_built, is_built_body}
 use Rattle.dt_hart.specs.OwnWrites.{are_rising}
 use Rattle.dt_record.specs.declared.keys.Key.{Key}
 use Rattle.dt_record.specs.declared.records.Body.{Body}
@@ -19,20 +18,20 @@ use Rattle.dt_record.specs.declared.writes.Write.{Write}
 use Rattle.dt_record.specs.Actions.{Action, Stored, Drained, Fenced, Loaded, Atomic as Accessed}
 use Rattle.dt_record.specs.Keys.{key_of}
 use Rattle.dt_record.specs.Lawful.{body_bounds, is_in_ram, is_instruction, is_lawful}
-use Rattle.dt_record.specs.LoadSources.{Fits, is_within, origin_at}
+use Rattle.dt_record.specs.LoadSources.{Fits, is_within, origin_at, origin_of_key}
 use Rattle.dt_reference.specs.HartActions.{actions_from, body_action, commit_action}
 use Rattle.dt_reference.specs.Meaning.{meaning_of}
 use Rattle.dt_judge.specs.Judging.{are_later}
 use Rattle.dt_judge.proofs.LaterFindings.{ReadsUntil}
 use Rattle.dt_judge.proofs.LaterReads.{Steady}
-use Rattle.dt_judge.proofs.LaterWrites.{origin_same, passes_in, seen_within}
+use Rattle.dt_judge.proofs.LaterWrites.{origin_same, own_source_same, passes_in, seen_within}
 
 -- What the hart did before saw no later write.
 
--- an action of no later cycle, among those that are built
+-- an action of no later cycle
 abbrev pub is_seen : ℕ → Action → Bool
 is_seen stamp (Loaded ask) = nat_le ask.at stamp && nat_le ask.key.stamp stamp
-is_seen stamp (Accessed key addr width reads acquires) = false
+is_seen stamp (Accessed key addr width reads acquires) = nat_le key.stamp stamp
 is_seen stamp action = true
 
 commit_seen : (stamp : ℕ) (o : Option Instr) → IsTrue (list_all (is_seen stamp) (option_to_list (commit_action o)))
@@ -59,47 +58,46 @@ reads_until stamp Beat lawful = tt
 load_seen : (stamp at : ℕ) (key : Key) → at ≤ key.stamp → key.stamp ≤ stamp → (nat_le at stamp && nat_le key.stamp stamp) ≡ true
 load_seen stamp at key read early = grind (arith, nat_tests)
 
-pub body_seen : (stamp : ℕ) (key : Key) (b : Body) → key.stamp ≤ stamp → IsTrue (is_built_body b) → IsTrue (list_all (λ x. x.holds) (body_bounds key.stamp b))
+pub body_seen : (stamp : ℕ) (key : Key) (b : Body) → key.stamp ≤ stamp → IsTrue (list_all (λ x. x.holds) (body_bounds key.stamp b))
     → IsTrue (list_all (is_seen stamp) (option_to_list (body_action key b)))
-body_seen stamp key (Load retire at paddr) early built lawful =
+body_seen stamp key (Load retire at paddr) early lawful =
     let read : at ≤ key.stamp = reads_until key.stamp (Load retire at paddr) lawful in
     elim (cases_Bool (is_in_ram paddr)) [
       | inl ram ↦ rw (ram, load_seen stamp at key read early) refl
       | inr device ↦ rw device refl
     ]
-body_seen stamp key (Store pc bits paddr value) early built lawful = elim (cases_Bool (is_in_ram paddr)) [ inl ram ↦ rw ram refl | inr device ↦ rw device refl ]
-body_seen stamp key (Commit retire) early built lawful = commit_seen stamp (meaning_of retire.bits)
-body_seen stamp key (Trap pc bits cause tval) early built lawful = refl
-body_seen stamp key (Regs pc x) early built lawful = refl
-body_seen stamp key (Csrs mode v) early built lawful = refl
-body_seen stamp key (Atomic retire paddr width wrote new) early built lawful = absurd (false≢true built)
-body_seen stamp key (Drain line mask count bytes) early built lawful = refl
-body_seen stamp key (Refill line bytes) early built lawful = refl
-body_seen stamp key Beat early built lawful = refl
+body_seen stamp key (Store pc bits paddr value) early lawful = elim (cases_Bool (is_in_ram paddr)) [ inl ram ↦ rw ram refl | inr device ↦ rw device refl ]
+body_seen stamp key (Commit retire) early lawful = commit_seen stamp (meaning_of retire.bits)
+body_seen stamp key (Trap pc bits cause tval) early lawful = refl
+body_seen stamp key (Regs pc x) early lawful = refl
+body_seen stamp key (Csrs mode v) early lawful = refl
+body_seen stamp key (Atomic retire paddr width wrote new) early lawful = let seen : nat_le key.stamp stamp ≡ true = grind (arith, nat_tests) in rw seen refl
+body_seen stamp key (Drain line mask count bytes) early lawful = refl
+body_seen stamp key (Refill line bytes) early lawful = refl
+body_seen stamp key Beat early lawful = refl
 
 body_lawful : (r : Record) → IsTrue (is_lawful r) → IsTrue (list_all (λ x. x.holds) (body_bounds r.stamp r.body))
 body_lawful r lawful = (and_parts (nat_lt r.hart 8) (list_all (λ x. x.holds) (body_bounds r.stamp r.body)) lawful).1
 
 -- of the record that is judged
-pub record_seen : (seq : ℕ) (r : Record) → IsTrue (is_built r) → IsTrue (is_lawful r) → IsTrue (list_all (is_seen r.stamp) (option_to_list (body_action (key_of seq r) r.body)))
-record_seen seq r built lawful = body_seen r.stamp (key_of seq r) r.body (omega arith) built (body_lawful r lawful)
+pub record_seen : (seq : ℕ) (r : Record) → IsTrue (is_lawful r) → IsTrue (list_all (is_seen r.stamp) (option_to_list (body_action (key_of seq r) r.body)))
+record_seen seq r lawful = body_seen r.stamp (key_of seq r) r.body (omega arith) (body_lawful r lawful)
 
 pub record_reads : (r : Record) → IsTrue (is_lawful r) → ReadsUntil r.stamp r.body
 record_reads r lawful = reads_until r.stamp r.body (body_lawful r lawful)
 
 -- of those before it
-actions_seen : (stamp seq : ℕ) (rs : List Record) → IsTrue (list_all (λ q. nat_le q.stamp stamp) rs) → IsTrue (list_all is_built rs) → IsTrue (list_all is_lawful rs)
+actions_seen : (stamp seq : ℕ) (rs : List Record) → IsTrue (list_all (λ q. nat_le q.stamp stamp) rs) → IsTrue (list_all is_lawful rs)
     → IsTrue (list_all (is_seen stamp) (actions_from seq rs))
-actions_seen stamp seq [] early built lawful = refl
-actions_seen stamp seq (r ∷ rs) early built lawful =
+actions_seen stamp seq [] early lawful = refl
+actions_seen stamp seq (r ∷ rs) early lawful =
     let earlies = and_parts (nat_le r.stamp stamp) (list_all (λ q. nat_le q.stamp stamp) rs) early in
-    let builts = and_parts (is_built r) (list_all is_built rs) built in
     let lawfuls = and_parts (is_lawful r) (list_all is_lawful rs) lawful in
     let least : IsTrue (nat_le r.stamp stamp) = earlies.0 in
     let below : r.stamp ≤ stamp = grind (arith, nat_tests) in
-    let here = body_seen stamp (key_of seq r) r.body below builts.0 (body_lawful r lawfuls.0) in
+    let here = body_seen stamp (key_of seq r) r.body below (body_lawful r lawfuls.0) in
     rw (list_all-append (is_seen stamp) (option_to_list (body_action (key_of seq r) r.body)) (actions_from (seq + 1) rs), here)
-    (actions_seen stamp (seq + 1) rs earlies.1 builts.1 lawfuls.1)
+    (actions_seen stamp (seq + 1) rs earlies.1 lawfuls.1)
 
 rising_until : (before : List Record) (r : Record) (more : List Record) → IsTrue (are_rising (before ++ r ∷ more)) → IsTrue (list_all (λ q. nat_le q.stamp r.stamp) before)
 rising_until [] r more rising = refl
@@ -109,9 +107,9 @@ rising_until (x ∷ xs) r more rising =
     let here : IsTrue (nat_le x.stamp r.stamp) = passes_in (λ q. nat_le x.stamp q.stamp) (xs ++ r ∷ more) r parts.0 (Contains-append_right xs (r ∷ more) r there) in
     rw here (rising_until xs r more parts.1)
 
-pub all_seen : (before : List Record) (r : Record) (more : List Record) → IsTrue (are_rising (before ++ r ∷ more)) → IsTrue (list_all is_built before) → IsTrue (list_all is_lawful before)
+pub all_seen : (before : List Record) (r : Record) (more : List Record) → IsTrue (are_rising (before ++ r ∷ more)) → IsTrue (list_all is_lawful before)
     → IsTrue (list_all (is_seen r.stamp) (actions_from 0 before))
-all_seen before r more rising built lawful = actions_seen r.stamp 0 before (rising_until before r more rising) built lawful
+all_seen before r more rising lawful = actions_seen r.stamp 0 before (rising_until before r more rising) lawful
 
 -- so what they had is the same with later writes
 pub steady : (ws later : List Write) (stamp : ℕ) (after : IsTrue (are_later stamp later)) (image : List ℕ) (actions : List Action) (moments : ℕ → ℕ)
@@ -129,7 +127,10 @@ steady ws later stamp after image actions moments seen fits m action there befor
         let fit = fits m ask at in
         let within = seen_within ws later stamp after ask.key ask.at (moments m) early fit.visible in
         ap (λ o. if is_within ask.addr ask.width byte then Some o else None) (origin_same ws later stamp after before ask (moments m) byte within)
-    by_action (Accessed key addr width reads acquires) at = absurd (false≢true (is_seen_there (Accessed key addr width reads acquires) at))
+    by_action (Accessed key addr width reads acquires) at =
+        let least : IsTrue (nat_le key.stamp stamp) = is_seen_there (Accessed key addr width reads acquires) at in
+        let early : key.stamp ≤ stamp = grind (arith, nat_tests) in
+        ap (λ source. if reads && is_within addr width byte then Some (origin_of_key source) else None) (own_source_same ws later stamp after key byte early)
     by_action (Stored store) at = refl
     by_action (Drained key line count) at = refl
     by_action (Fenced ww wr rr) at = refl

@@ -5,7 +5,6 @@ use Rattle.dt_record.specs.declared.origins.Sources.{Sources}
 use Rattle.dt_record.specs.declared.records.Record.{Record}
 use Rattle.dt_record.specs.declared.writes.Write.{Write}
 use Rattle.dt_record.specs.Lawful.{is_lawful}
-use Rattle.dt_hart.specs.Built.{is_built}
 use Rattle.dt_hart.specs.HartView.{HartView}
 use Rattle.dt_hart.specs.OwnWrites.{GoesOn}
 use Rattle.dt_hart.specs.Settings.{Setting, after, does}
@@ -19,21 +18,17 @@ use Rattle.dt_judge.specs.Judgement.{Finds}
 
 -- What `judge` answers (this project's own).
 
-abbrev pub are_built : List Record → Bool
-are_built records = list_all is_built records
-
 -- writes of later cycles than this one
 abbrev pub are_later : ℕ → List Write → Bool
 are_later stamp writes = list_all (λ w. nat_lt stamp w.key.stamp) writes
 
 -- A hart and the memory that it is judged over are those of a setting, with which this record goes on. The memory holds
 -- the first of all writes, and no write that it lacks is of the record's cycle or an earlier one. The records before are
--- lawful and of the kinds that are built.
+-- lawful.
 pub record Meets (h : HartView) (m : History) (s : Setting) (r : Record) : Type 0 where
   pub stands : StandsFor h s
   pub goes_on : GoesOn s r
   pub lawful : IsTrue (list_all is_lawful s.before)
-  pub built : IsTrue (are_built s.before)
   pub image : s.image ≡ m.image
   pub later : List Write
   pub writes : s.writes ≡ m.writes ++ later

@@ -1,25 +1,25 @@
-use Rattle.std.specs.Prelude.{ℕ, ◌≡◌, ◌||◌, ◌==◌, Bool, true, false, List, [], ◌∷◌, map, Result, Ok, Err}
-use Rattle.std.specs.List.{range_with_len}
-use Rattle.std.specs.Option.{option_map_or, unwrap_or}
-use Rattle.std.specs.Str.{bytes_eq}
+use Rattle.std.specs.Prelude.{ℕ, ◌≡◌, ◌||◌, Bool, true, false, List, Result, Ok, Err}
+use Rattle.std.specs.Option.{unwrap_or}
 use Rattle.dt_record.specs.declared.accesses.LoadAsk.{LoadAsk}
 use Rattle.dt_record.specs.declared.keys.Key.{Key}
 use Rattle.dt_record.specs.declared.origins.Letters.{Letters}
-use Rattle.dt_record.specs.declared.reasons.Reason.TheVariants.{Refill as NotRefilled}
 use Rattle.dt_record.specs.declared.records.Retire.{Retire}
+use Rattle.dt_record.specs.declared.writes.Write.{Write}
 use Rattle.dt_record.specs.Lawful.{is_in_ram}
-use Rattle.dt_record.specs.Memory.{memory_at}
 use Rattle.dt_rules.specs.declared.misfits.Misfit.{Misfit}
 use Rattle.dt_rules.specs.declared.misfits.TheConstants.{NO_LETTERS, NO_SOURCES}
-use Rattle.dt_rules.specs.Checks.{misfit, check, and_then}
+use Rattle.dt_rules.specs.Checks.{and_then}
 use Rattle.dt_step.specs.declared.plans.AtomicOp.{AtomicOp}
 use Rattle.dt_step.specs.declared.plans.Planned.{Planned}
 use Rattle.dt_step.specs.declared.plans.Planned.TheVariants.{NeedsLoad, NeedsStore, NeedsAtomic}
 use Rattle.dt_walk.specs.declared.arguments.Access.{Access}
 use Rattle.dt_walk.specs.declared.arguments.Access.TheVariants as access
-use Rattle.dt_translate.specs.Newest.{newest}
 use Rattle.dt_versions.specs.declared.moments.Span.{Span}
+use Rattle.dt_versions.specs.History.{history}
 use Rattle.dt_versions.specs.Spans.{first_visible, last_visible}
+use Rattle.dt_atomics.specs.declared.accesses.AtomicAccess.{AtomicAccess}
+use Rattle.dt_atomics.specs.Answers.{IsAtomicAnswer}
+use Rattle.dt_atomics.specs.Grounds.{AtomicGrounds, atomic_grounds}
 use Rattle.dt_checks.specs.declared.starting.Started.{Started}
 use Rattle.dt_checks.specs.Starting.{start_check}
 use Rattle.dt_checks.specs.Addresses.{address_check}
@@ -30,10 +30,11 @@ use Rattle.dt_drains.specs.Draining.{store_data_check}
 use Rattle.dt_loads.specs.declared.reading.Passed.{Passed}
 use Rattle.dt_loads.specs.Checks.{device_check, order_check}
 use Rattle.dt_loads.specs.Reading.{HasEightPlaces, IsLoadAnswer, ask_of}
+use Rattle.dt_refills.specs.Refilling.{refill_check}
 use Rattle.dt_traps.specs.declared.traps.TrapSpans.{TrapSpans}
 use Rattle.dt_traps.specs.Instructions.{access_address, atomic_access}
 use Rattle.dt_traps.specs.Traps.{trap_check}
-use Rattle.dt_judge.specs.Atomics.{AtomicAccess, AtomicPasses, access_check}
+use Rattle.dt_judge.specs.declared.atomics.Said.{Said}
 use Rattle.dt_judge.specs.Grounds.{Grounds}
 
 -- The judgement of a record by its kind (this project's own): allowed, with its letters and sources, or the misfit of the
@@ -85,27 +86,15 @@ stored g stale plan paddr value = passed NO_LETTERS
 abbrev pub store_finding : Grounds → (pc bits paddr value : ℕ) → Result Passed Misfit
 store_finding g pc bits paddr value = and_then (started g pc bits 6) (λ st. stored g st.stale st.plan paddr value)
 
--- the bytes of a line after the first k writes
-abbrev pub line_at : Grounds → (k line : ℕ) → List ℕ
-line_at g k line = map (memory_at g.image g.writes k) (range_with_len line 64)
+-- the moments that a record with this key may see at its stamp
+abbrev pub seen_by : List Write → Key → Span
+seen_by writes key = record { first = first_visible writes key key.stamp; last = last_visible writes key key.stamp }
 
--- the moments that a record may see at its stamp
-abbrev pub seen_by : Grounds → Key → Span
-seen_by g key = record { first = first_visible g.writes key key.stamp; last = last_visible g.writes key key.stamp }
-
--- the first byte that differs from the one that is due
-abbrev pub differing : (due found : List ℕ) → Result Passed Misfit
-differing [] found = passed NO_LETTERS
-differing (due ∷ dues) [] = passed NO_LETTERS
-differing (due ∷ dues) (found ∷ more) = check (due == found) (misfit NotRefilled due found) (differing dues more)
-
--- a refill: some moment that the record may see has the whole line; else the first byte that differs from the greatest one
+-- a refill: some moment that the record may see has the whole line
 abbrev pub refill_finding : Grounds → Key → (line : ℕ) → List ℕ → Result Passed Misfit
-refill_finding g key line bytes =
-    option_map_or fine (newest (λ k. bytes_eq (line_at g k line) bytes) (seen_by g key))
-    (differing (line_at g (seen_by g key).last line) bytes)
+refill_finding g key line bytes = and_then (refill_check g.image g.writes (seen_by g.writes key) line bytes) fine
 
--- the letter P of an allowed load, beside its others
+-- the letter P of an allowed load or atomic, beside its others
 abbrev pub with_p : (p : Bool) → Result Passed Misfit → Result Passed Misfit
 with_p p (Ok x) = Ok (record x { letters = record x.letters { p = p } })
 with_p p (Err refused) = Err refused
@@ -141,14 +130,6 @@ abbrev pub IsLoadFinding : Grounds → Key → Retire → (at paddr : ℕ) → R
 IsLoadFinding g key retire at paddr f =
     Leads (started g retire.pc retire.bits 5) (λ st found. LoadsBy g key st.stale st.plan retire.value at paddr found) f
 
--- what the record of an atomic says beside its pc and its bits
-pub record Said : Type 0 where
-  pub value : ℕ
-  pub paddr : ℕ
-  pub width : ℕ
-  pub wrote : Bool
-  pub new : ℕ
-
 -- what an atomic asks for, by its plan, and what its record says
 abbrev pub access_in : AtomicOp → (width : ℕ) → (release : Bool) → (operand : ℕ) → Said → AtomicAccess
 access_in op width release operand said = record {
@@ -163,9 +144,13 @@ access_in op width release operand said = record {
   new = said.new;
 }
 
+-- what an atomic is checked against
+abbrev pub atomic_on : Grounds → AtomicGrounds
+atomic_on g = atomic_grounds (history g.image g.writes) g.actions g.moments g.reserved
+
 -- an atomic where its address is allowed
 abbrev pub Accesses : Grounds → Key → (p : Bool) → AtomicAccess → Result Passed Misfit → Type 0
-Accesses g key p x f = Leads (access_check g key x) (λ _ found. AtomicPasses g key p x found) f
+Accesses g key p x f = (answer : Result Passed Misfit) × IsAtomicAnswer (atomic_on g) key x answer × (f ≡ with_p p answer)
 
 -- an atomic after its common start; no other plan starts in an Atomic record
 abbrev pub AtomicBy : Grounds → Key → (stale : Bool) → Planned → Said → Result Passed Misfit → Type 0

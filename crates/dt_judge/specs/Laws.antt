@@ -1,9 +1,13 @@
-use Rattle.std.specs.Prelude.{ℕ, ◌≡◌, ◌<◌, length, Result}
+use Rattle.std.specs.Prelude.{ℕ, ◌≡◌, Bool, Option, Some, List, slice_get, Result}
+use Rattle.dt_record.specs.declared.accesses.LoadAsk.{LoadAsk}
 use Rattle.dt_record.specs.declared.records.Record.{Record}
+use Rattle.dt_record.specs.declared.writes.Write.{Write}
+use Rattle.dt_record.specs.Actions.{Action, Loaded}
 use Rattle.dt_hart.specs.Settings.{Setting, did}
 use Rattle.dt_loads.specs.declared.reading.Passed.{Passed}
 use Rattle.dt_rules.specs.declared.misfits.Misfit.{Misfit}
 use Rattle.dt_judge.specs.Judgement.{Finds}
+use Rattle.dt_judge.specs.Runs.{RunsTo}
 
 -- Laws of the judgement (this project's own).
 
@@ -15,7 +19,19 @@ RecordsHaveOneFinding = (s : Setting) (r : Record) (f g : Result Passed Misfit) 
 abbrev pub with_moments : Setting → (ℕ → ℕ) → Setting
 with_moments s moments = record s { moments = moments }
 
--- only the moments at the places of what the hart did before count
+-- two assignments give each load among some actions the same moment
+abbrev pub AgreeAtLoads : List Action → (moments others : ℕ → ℕ) → Type 0
+AgreeAtLoads actions moments others = (place : ℕ) (ask : LoadAsk) → slice_get actions place ≡ Some (Loaded ask) → others place ≡ moments place
+
+-- only the moments at which the hart's loads before read count
 abbrev pub EarlierMomentsDecide : Type 0
 EarlierMomentsDecide = (s : Setting) (others : ℕ → ℕ) (r : Record) (f : Result Passed Misfit)
-    → ((place : ℕ) → place < length (did s) → others place ≡ s.moments place) → Finds s r f → Finds (with_moments s others) r f
+    → AgreeAtLoads (did s) s.moments others → Finds s r f → Finds (with_moments s others) r f
+
+-- A hart's records are allowed up to one place only, with the same letters and sources, and the next one, if any, has one
+-- reason.
+abbrev pub RunsHaveOneEnd : Type 0
+RunsHaveOneEnd = (image : List ℕ) (writes : List Write) (wide : Bool) (hart : ℕ) (records : List Record)
+    (allowed others : List Passed) (refused other : Option Misfit)
+    → RunsTo image writes wide hart records allowed refused → RunsTo image writes wide hart records others other
+    → (allowed ≡ others) × (refused ≡ other)

@@ -1,10 +1,7 @@
-pub mod Atomics
 pub mod Grounds
 pub mod Judgement
 pub mod Judging
+pub mod Keeping
 pub mod Kinds
 pub mod Laws
 pub mod Runs
-pub mod Unfenced
-pub mod Windows
-pub mod Worked

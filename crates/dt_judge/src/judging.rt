@@ -1,13 +1,15 @@
-ghost use Rattle.std.specs.Prelude.{◌≡◌, ◌+◌, ◌<◌, ◌≤◌, IsTrue};
+ghost use Rattle.std.specs.Prelude.{◌≡◌, ◌+◌, ◌<◌, ◌≤◌};
 ghost use Rattle.dt_record.specs.Lawful.{IsLawful};
-ghost use Rattle.dt_hart.specs.Built.{is_built};
 ghost use Rattle.dt_hart.specs.Settings.{Setting};
 ghost use Rattle.dt_judge.specs.Judging.{GoesOnBy, IsJudged, Meets, OnFine, UnlessFine};
 
 use crate::findings::finding;
+use crate::spans::seen_by;
+use dt_atomics::first_writes_decide_atomics;
 use dt_checks::first_writes_decide_checks;
 use dt_hart::{Hart, known_at_next};
 use dt_record::{Key, Record};
+use dt_refills::first_writes_decide_refills;
 use dt_rules::{Letters, Reason};
 use dt_sources::Sources;
 use dt_traps::first_writes_decide_traps;
@@ -34,7 +36,6 @@ pub enum Judged {
 /// allowed.
 pub fn judge(h: &mut Hart, m: &Moments, event: &Record) -> Judged
     requires lawful { IsLawful event.now }
-    requires built { IsTrue (is_built event.now) }
     requires its { event.now.hart ≡ h.old.arch.hart }
     requires in_time { h.old.stamp ≤ event.now.stamp }
     requires room { h.old.seq < 4194304 }
@@ -46,15 +47,18 @@ pub fn judge(h: &mut Hart, m: &Moments, event: &Record) -> Judged
     ensures unchanged { UnlessFine result (h.new ≡ h.old) }
 {
     known_at_next();
+    first_writes_decide_atomics();
     first_writes_decide_checks();
+    first_writes_decide_refills();
     first_writes_decide_traps();
     let key = Key {
         stamp: event.stamp,
         hart: event.hart,
         seq: h.seq(),
     };
-    match finding(h, m, key, event) {
-        Ok(passed) => match h.take(event, passed.sources) {
+    let seen = seen_by(m, key);
+    match finding(h, m, seen, key, event) {
+        Ok(passed) => match h.take(event, passed.sources, seen.first) {
             Ok(()) => Judged::Fine {
                 letters: passed.letters,
                 sources: passed.sources,

@@ -2,6 +2,7 @@
 //! definitions that the contracts cite stand in `specs/` here and in the crates below.
 #![tactic(auto)]
 
+mod atomics;
 mod findings;
 mod judging;
 mod kinds;
@@ -11,6 +12,6 @@ mod spans;
 #[cfg(test)]
 mod tests;
 
-pub use dt_hart::{Hart, is_built};
+pub use dt_hart::Hart;
 pub use judging::{Judged, judge};
-pub use laws::{earlier_moments_decide, records_have_one_finding};
+pub use laws::{earlier_moments_decide, records_have_one_finding, runs_have_one_end};

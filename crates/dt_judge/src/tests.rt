@@ -1,4 +1,6 @@
-use crate::{Hart, Judged, earlier_moments_decide, is_built, judge, records_have_one_finding};
+use crate::{
+    Hart, Judged, earlier_moments_decide, judge, records_have_one_finding, runs_have_one_end,
+};
 use dt_record::{Body, Image, Key, Origin, Record, Retire, Sources, Write, lawful};
 use dt_rules::{Letters, NO_LETTERS, NO_NUMBER, NO_SOURCES, Reason};
 use dt_versions::Moments;
@@ -24,6 +26,25 @@ fn memory(alloc: Global, words: &[u32], data: u64) -> Result<Moments, AllocError
     Ok(Moments::empty(alloc, Image::of(bytes)))
 }
 
+/// Hart 0 writes a double into the first 8 bytes of a line, in cycle 10.
+fn put(rt: &impl Abort, m: &mut Moments, line: u64, value: u64) -> Result<(), AllocError> {
+    let mut bytes = [0; 64];
+    bytes[..8].copy_from_slice(&value.to_le_bytes());
+    let key = Key {
+        stamp: 10,
+        hart: 0,
+        seq: 5,
+    };
+    let w = Write {
+        key,
+        line,
+        mask: 0xff,
+        bytes,
+    };
+    assert!(rt; m.can_add(&w));
+    m.add(w)
+}
+
 /// Judges the hart's records one after another, with their stamps, and compares the answers.
 fn judge_all(rt: &impl Abort, hart: &mut Hart, m: &Moments, steps: &[(u64, Body, Judged)]) {
     for (stamp, body, expected) in steps {
@@ -33,7 +54,6 @@ fn judge_all(rt: &impl Abort, hart: &mut Hart, m: &Moments, steps: &[(u64, Body,
             body: *body,
         };
         assert!(rt; lawful(&event));
-        assert!(rt; is_built(&event));
         assert!(rt; hart.stamp() <= *stamp && hart.seq() < 4_194_304);
         assert_eq!(rt; judge(hart, m, &event), *expected, "{event:?}");
     }
@@ -58,6 +78,18 @@ fn store(place: u32, bits: u32, paddr: u64) -> Body {
         bits,
         paddr,
         value: 7,
+    }
+}
+
+/// An atomic of a double at the line.
+fn atomic(place: u32, bits: u32, value: u64, wrote: bool) -> Body {
+    let pc = PC + u64::from(place);
+    Body::Atomic {
+        retire: Retire { pc, bits, value },
+        paddr: LINE,
+        width: 8,
+        wrote,
+        new: 0,
     }
 }
 
@@ -221,6 +253,7 @@ fn traps_and_interrupts(rt: HostRuntime) -> Result<(), Fail> {
 fn loads_from_devices(rt: HostRuntime) -> Result<(), Fail> {
     records_have_one_finding();
     earlier_moments_decide();
+    runs_have_one_end();
     let taken = fine(Letters {
         d: true,
         ..NO_LETTERS
@@ -312,20 +345,7 @@ fn judge_after_drain(
         0x1002_b403,
     ];
     let mut m = memory(alloc, &words, 0)?;
-    let mut bytes = [0; 64];
-    bytes[0] = 7;
-    let w = Write {
-        key: Key {
-            stamp: 10,
-            hart: 0,
-            seq: 5,
-        },
-        line: LINE,
-        mask: 0xff,
-        bytes,
-    };
-    assert!(rt; m.can_add(&w));
-    m.add(w)?;
+    put(rt, &mut m, LINE, 7)?;
     judge_all(
         rt,
         &mut Hart::new(alloc, 1, false),
@@ -358,5 +378,171 @@ fn loads_after_another_harts_drain(rt: HostRuntime) -> Result<(), Fail> {
     ] {
         judge_after_drain(&rt, rt.alloc(), (stamp, value, at), expected)?;
     }
+    Ok(())
+}
+
+/// An atomic of x7, which is 0, at the line, whose address x10 has. There may be an LR before it.
+fn judge_atomic(
+    rt: &impl Abort,
+    alloc: Global,
+    reserves: bool,
+    (bits, value, wrote): (u32, u64, bool),
+    expected: Judged,
+) -> Result<(), AllocError> {
+    let nothing = 0x0000_0013;
+    let reserve = 0x1005_35af;
+    let second = if reserves { reserve } else { nothing };
+    let words = [0x0000_0297, 0x1002_8513, second, bits];
+    let (before, before_fine) = if reserves {
+        (
+            atomic(8, reserve, 0, false),
+            read(false, [Origin::Image; 8]),
+        )
+    } else {
+        (commit(8, nothing, 0), plain())
+    };
+    judge_alone(
+        rt,
+        alloc,
+        &words,
+        &[
+            (1, commit(0, words[0], PC), plain()),
+            (2, commit(4, words[1], LINE), plain()),
+            (3, before, before_fine),
+            (4, atomic(12, bits, value, wrote), expected),
+        ],
+    )
+}
+
+#[test]
+fn atomics_with_and_without_a_reservation(rt: HostRuntime) -> Result<(), Fail> {
+    let conditional = 0x1875_362f;
+    let swap = 0x0875_362f;
+    let settled = fine(Letters {
+        s: true,
+        ..NO_LETTERS
+    });
+    let succeeds = (conditional, 0, true);
+    let fails = (conditional, 1, false);
+    let refused = fail(Reason::ScSuccess, 1, 0);
+    judge_atomic(&rt, rt.alloc(), true, succeeds, plain())?;
+    judge_atomic(&rt, rt.alloc(), true, fails, settled)?;
+    judge_atomic(&rt, rt.alloc(), false, succeeds, refused)?;
+    judge_atomic(&rt, rt.alloc(), false, fails, plain())?;
+    let image = read(false, [Origin::Image; 8]);
+    judge_atomic(&rt, rt.alloc(), false, (swap, 0, true), image)?;
+    let other = fail(Reason::AtomicValue, 0, 5);
+    judge_atomic(&rt, rt.alloc(), false, (swap, 5, true), other)?;
+    Ok(())
+}
+
+#[test]
+fn refills_of_the_line_and_of_another(rt: HostRuntime) -> Result<(), Fail> {
+    let refill = |first| {
+        let mut bytes = [0; 64];
+        bytes[..4].copy_from_slice(&[first, 0, 0x50, 0]);
+        Body::Refill { line: PC, bytes }
+    };
+    judge_alone(
+        &rt,
+        rt.alloc(),
+        &[0x0050_0093],
+        &[
+            (1, refill(0x93), plain()),
+            (1, refill(0x94), fail(Reason::Refill, 0x93, 0x94)),
+        ],
+    )?;
+    Ok(())
+}
+
+/// Hart 0 changes the second instruction in cycle 10. Hart 1 retires the first one in cycle 12, and
+/// then the one that stood there.
+fn judge_old_code(
+    rt: &impl Abort,
+    alloc: Global,
+    first: u32,
+    expected: Judged,
+) -> Result<(), AllocError> {
+    let five = 0x0050_0093;
+    let mut m = memory(alloc, &[first, five], 0)?;
+    put(rt, &mut m, PC, 0x0060_0093_0000_0000 + u64::from(first))?;
+    judge_all(
+        rt,
+        &mut Hart::new(alloc, 1, false),
+        &m,
+        &[
+            (12, commit(0, first, 0), plain()),
+            (13, commit(4, five, 5), expected),
+        ],
+    );
+    Ok(())
+}
+
+#[test]
+fn a_fence_of_instructions_ends_old_code(rt: HostRuntime) -> Result<(), Fail> {
+    let stale = fine(Letters {
+        p: true,
+        ..NO_LETTERS
+    });
+    judge_old_code(&rt, rt.alloc(), 0x0000_0013, stale)?;
+    let refused = fail(Reason::Fetch, PC + 6, 0x50);
+    judge_old_code(&rt, rt.alloc(), 0x0000_100f, refused)?;
+    Ok(())
+}
+
+/// Hart 1 turns on the translation of its data, whose table hart 0 fills in cycle 10, and retires an
+/// instruction in cycle 12. Then its load takes the page fault of before.
+fn judge_old_fault(
+    rt: &impl Abort,
+    alloc: Global,
+    before: u32,
+    expected: Judged,
+) -> Result<(), AllocError> {
+    let words = [
+        0x0000_2297,
+        0x00c2_d293,
+        0x0010_0093,
+        0x03f0_9093,
+        0x0012_e2b3,
+        0x1802_9073,
+        0x0002_11b7,
+        0x8001_8193,
+        0x3001_9073,
+        before,
+        0x1000_2403,
+    ];
+    let values = [
+        0x8000_2000,
+        0x8_0002,
+        1,
+        1 << 63,
+        (1 << 63) + 0x8_0002,
+        0,
+        0x2_1000,
+        0x2_0800,
+        0,
+        0,
+    ];
+    let mut m = memory(alloc, &words, 0)?;
+    put(rt, &mut m, 0x8000_2000, 0x2000_00cf)?;
+    let mut hart = Hart::new(alloc, 1, false);
+    for i in 0..10u32 {
+        let body = commit(4 * i, words[i as usize], values[i as usize]);
+        judge_all(rt, &mut hart, &m, &[(12, body, plain())]);
+    }
+    let fault = trap(40, words[10], 13, 0x100);
+    judge_all(rt, &mut hart, &m, &[(13, fault, expected)]);
+    Ok(())
+}
+
+#[test]
+fn a_fence_of_pages_ends_an_old_fault(rt: HostRuntime) -> Result<(), Fail> {
+    let stale = fine(Letters {
+        p: true,
+        ..NO_LETTERS
+    });
+    judge_old_fault(&rt, rt.alloc(), 0x0000_0013, stale)?;
+    let refused = fail(Reason::Cause, NO_NUMBER, 13);
+    judge_old_fault(&rt, rt.alloc(), 0x1200_0073, refused)?;
     Ok(())
 }

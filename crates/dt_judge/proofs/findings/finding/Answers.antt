@@ -1,15 +1,47 @@
-use Rattle.std.proofs.Common.{◌≡◌, sym, subst}
+use Rattle.std.proofs.Common.{ℕ, List, sym, subst}
+use Rattle.dt_loads.specs.declared.reading.Passed.{Passed}
 use Rattle.dt_record.specs.declared.records.Body.{Body}
-use Rattle.dt_versions.specs.declared.moments.Span.{Span}
+use Rattle.dt_record.specs.declared.records.Body.TheVariants as body
+use Rattle.dt_record.specs.Actions.{Action}
+use Rattle.dt_reference.specs.HartActions.{body_action}
 use Rattle.dt_judge.specs.Judgement.{FindsBody}
-use Rattle.dt_judge.specs.Kinds.{trap_finding}
-use Rattle.dt_judge.specs.Unfenced.{seen_until, unfenced}
+use Rattle.dt_judge.specs.Keeping.{IsReadIn, Remembers, WasFound, grounds_kept}
+use Rattle.dt_judge.proofs.Leading.{if_ok}
 use Rattle.dt_judge.proofs.findings.finding.Goals as goal
 
+pub returns-in-Commit-clause-finds : goal.returns-in-Commit-clause-finds
+returns-in-Commit-clause-finds c = λ actions moments known.
+    let g = grounds_kept c.args.h.now c.args.m.now c.args.seen.last actions moments in
+    subst (λ (b : Body). FindsBody g c.args.key b c.commit.result) (sym c.in-Commit.is) (c.commit.ensures.finds actions moments known.stores)
+
 pub returns-in-Trap-clause-finds : goal.returns-in-Trap-clause-finds
-returns-in-Trap-clause-finds c = λ actions moments reserved known.
+returns-in-Trap-clause-finds c = λ actions moments known.
+    let g = grounds_kept c.args.h.now c.args.m.now c.args.seen.last actions moments in
+    subst (λ (b : Body). FindsBody g c.args.key b c.trap.result) (sym c.in-Trap.is) (c.trap.ensures actions moments)
+
+pub returns-in-Load-clause-finds : goal.returns-in-Load-clause-finds
+returns-in-Load-clause-finds c = λ actions moments known.
+    let g = grounds_kept c.args.h.now c.args.m.now c.args.seen.last actions moments in
+    subst (λ (b : Body). FindsBody g c.args.key b c.load.result) (sym c.in-Load.is) (c.load.ensures.finds actions moments known)
+
+pub returns-in-Store-clause-finds : goal.returns-in-Store-clause-finds
+returns-in-Store-clause-finds c = λ actions moments known.
+    let g = grounds_kept c.args.h.now c.args.m.now c.args.seen.last actions moments in
+    subst (λ (b : Body). FindsBody g c.args.key b c.store.result) (sym c.in-Store.is) (c.store.ensures.finds actions moments)
+
+pub returns-in-Atomic-clause-finds : goal.returns-in-Atomic-clause-finds
+returns-in-Atomic-clause-finds c = λ actions moments known.
+    let g = grounds_kept c.args.h.now c.args.m.now c.args.seen.last actions moments in
+    subst (λ (b : Body). FindsBody g c.args.key b c.atomic.result) (sym c.in-Atomic.is) (c.atomic.ensures.finds actions moments known)
+
+pub returns-in-Atomic-clause-found : goal.returns-in-Atomic-clause-found
+returns-in-Atomic-clause-found c =
     let h = c.args.h.now in
     let m = c.args.m.now in
-    let found = subst (λ (s : Span). c.trap.result ≡ trap_finding (unfenced h m s actions moments reserved) c.in-Trap.pc c.in-Trap.bits c.in-Trap.cause c.in-Trap.tval)
-    c.seen_until-seen.ensures.value (c.trap.ensures actions moments reserved) in
-    subst (λ (b : Body). FindsBody (unfenced h m (seen_until m.writes c.args.key) actions moments reserved) c.args.key b c.trap.result) (sym c.in-Trap.is) found
+    let its : Body = body.Atomic c.in-Atomic.retire c.in-Atomic.paddr c.in-Atomic.width c.in-Atomic.wrote c.in-Atomic.new in
+    if_ok c.atomic.result
+    (λ (x : Passed). (actions : List Action) (moments : ℕ → ℕ) → Remembers h m.writes c.args.key actions moments → IsReadIn m.image m.writes actions moments (body_action c.args.key its) x.sources)
+    (λ (x : Passed). (actions : List Action) (moments : ℕ → ℕ) → Remembers h m.writes c.args.key actions moments → WasFound m.image m.writes actions moments c.args.key c.args.event.now.body x.sources)
+    (λ x read actions moments known.
+    subst (λ (b : Body). WasFound m.image m.writes actions moments c.args.key b x.sources) (sym c.in-Atomic.is) (record { is_read = read actions moments known; is_drained = tt }))
+    c.atomic.ensures.read

@@ -5,14 +5,34 @@ use Rattle.dt_judge.proofs.judging.judge.Goals as goal
 pub returns-in-Ok-take-clause-judged : goal.returns-in-Ok-take-clause-judged
 returns-in-Ok-take-clause-judged c = λ s meets.
     let checks = c.first_writes_decide_checks.ensures in
-    let laws : Laws = record { known = c.known_at_next.ensures; checks = record { starts = checks.starts; addresses = checks.addresses; traps = c.first_writes_decide_traps.ensures } } in
-    finds laws c.args.h.now c.args.m.now s c.args.event.now meets c.seq.result (Ok c.in-Ok.passed) c.requires.built c.requires.lawful c.seq.ensures c.in-Ok.ensures.finds
+    let laws : Laws = record {
+      known = c.known_at_next.ensures;
+      checks = record {
+        starts = checks.starts;
+        addresses = checks.addresses;
+        traps = c.first_writes_decide_traps.ensures;
+        atomics = c.first_writes_decide_atomics.ensures;
+        refills = c.first_writes_decide_refills.ensures;
+      };
+    } in
+    finds laws c.args.h.now c.args.m.now s c.args.event.now meets c.seq.result c.seen_by-seen.result (Ok c.in-Ok.passed) c.requires.lawful c.seq.ensures c.seen_by-seen.ensures.value
+    c.in-Ok.ensures.finds
 
 pub returns-in-Ok-take-clause-goes_on : goal.returns-in-Ok-take-clause-goes_on
 returns-in-Ok-take-clause-goes_on c = λ s meets.
     let checks = c.first_writes_decide_checks.ensures in
-    let laws : Laws = record { known = c.known_at_next.ensures; checks = record { starts = checks.starts; addresses = checks.addresses; traps = c.first_writes_decide_traps.ensures } } in
-    let judged = was_judged laws c.args.h.now c.args.m.now s c.args.event.now meets c.seq.result c.in-Ok.passed.sources c.requires.built c.requires.lawful c.seq.ensures c.in-Ok.ensures.found in
+    let laws : Laws = record {
+      known = c.known_at_next.ensures;
+      checks = record {
+        starts = checks.starts;
+        addresses = checks.addresses;
+        traps = c.first_writes_decide_traps.ensures;
+        atomics = c.first_writes_decide_atomics.ensures;
+        refills = c.first_writes_decide_refills.ensures;
+      };
+    } in
+    let judged = was_judged laws c.args.h.now c.args.m.now s c.args.event.now meets c.seq.result c.seen_by-seen.result c.in-Ok.passed.sources c.requires.lawful c.seq.ensures
+    c.seen_by-seen.ensures.value c.in-Ok.ensures.found in
     record {
       moment = judged.0;
       is_read = judged.1.is_read;
@@ -22,5 +42,15 @@ returns-in-Ok-take-clause-goes_on c = λ s meets.
 pub returns-in-Err-clause-judged : goal.returns-in-Err-clause-judged
 returns-in-Err-clause-judged c = λ s meets.
     let checks = c.first_writes_decide_checks.ensures in
-    let laws : Laws = record { known = c.known_at_next.ensures; checks = record { starts = checks.starts; addresses = checks.addresses; traps = c.first_writes_decide_traps.ensures } } in
-    finds laws c.args.h.now c.args.m.now s c.args.event.now meets c.seq.result (Err c.in-Err.refused) c.requires.built c.requires.lawful c.seq.ensures c.in-Err.ensures.finds
+    let laws : Laws = record {
+      known = c.known_at_next.ensures;
+      checks = record {
+        starts = checks.starts;
+        addresses = checks.addresses;
+        traps = c.first_writes_decide_traps.ensures;
+        atomics = c.first_writes_decide_atomics.ensures;
+        refills = c.first_writes_decide_refills.ensures;
+      };
+    } in
+    finds laws c.args.h.now c.args.m.now s c.args.event.now meets c.seq.result c.seen_by-seen.result (Err c.in-Err.refused) c.requires.lawful c.seq.ensures c.seen_by-seen.ensures.value
+    c.in-Err.ensures.finds

@@ -1,24 +1,19 @@
-use Rattle.std.proofs.Common.{◌≡◌, ◌||◌, Bool, true, false, sym, ap, subst, ◌∙◌}
-use Rattle.dt_checks.specs.Addresses.{address_check}
-use Rattle.dt_checks.specs.Translating.{walk_args}
+use Rattle.std.proofs.Common.{◌≡◌, ◌||◌, Bool, true, false, Ok, sym, ap, subst, ◌∙◌}
 use Rattle.dt_record.specs.declared.accesses.LoadAsk.{LoadAsk}
-use Rattle.dt_step.specs.declared.state.Arch.{Arch}
-use Rattle.dt_walk.specs.declared.arguments.WalkArgs.{WalkArgs}
+use Rattle.dt_judge.specs.Kinds.{LoadsRam, accessed}
 use Rattle.dt_walk.specs.declared.arguments.Access.TheVariants as access
-use Rattle.dt_judge.specs.Kinds.{LoadsRam}
-use Rattle.dt_judge.specs.Unfenced.{Remembers, unfenced}
+use Rattle.dt_judge.specs.Keeping.{Remembers, grounds_kept}
 use Rattle.dt_judge.proofs.Placing.{only_load}
 use Rattle.dt_judge.proofs.Readings.{loads_by, reads_by}
 use Rattle.dt_judge.proofs.loads.loaded.Goals as goal
 use Rattle.dt_judge.proofs.loads.loaded.Goals.{then-st, else-st}
 
 pub returns-then-is_in_ram-clause-finds : goal.returns-then-is_in_ram-clause-finds
-returns-then-is_in_ram-clause-finds c = λ actions moments reserved known.
+returns-then-is_in_ram-clause-finds c = λ actions moments known.
     let h = c.args.h.now in
     let m = c.args.m.now in
-    let g = unfenced h m c.args.seen actions moments reserved in
-    let args = c.walk_args-args.ensures.value ∙ ap (λ (a : Arch). walk_args a access.Load c.in-NeedsLoad.va) c.arch.ensures.value in
-    let allowed = sym (c.in_ok-older-in-NeedsLoad.ensures.value ∙ ap (λ (a : WalkArgs). address_check m.image m.writes c.args.seen a false c.args.paddr) args) in
+    let g = grounds_kept h m c.args.last actions moments in
+    let allowed : accessed g access.Load false c.in-NeedsLoad.va c.args.paddr ≡ Ok c.in_ok-older-in-NeedsLoad.older = sym c.in_ok-older-in-NeedsLoad.ensures.value in
     let p : (c.args.st.stale || c.in_ok-older-in-NeedsLoad.older) ≡ c.if-st.p =
     elim c.if-st.branch [
       | then-st w ↦ ap (λ (b : Bool). b || c.in_ok-older-in-NeedsLoad.older) w.if-st.true ∙ sym (w.p-is ∙ w.if-st.true)
@@ -26,7 +21,7 @@ returns-then-is_in_ram-clause-finds c = λ actions moments reserved known.
     ] in
     let ram = sym c.is_in_ram.ensures ∙ c.if-is_in_ram.true in
     let asked = subst (λ (a : LoadAsk). Remembers h m.writes a.key actions moments) (sym c.load_ask-ask.ensures) known in
-    let loads = subst (λ (a : LoadAsk). LoadsRam g c.if-st.p a c.in-NeedsLoad.signed c.args.value c.from_ram.result) c.load_ask-ask.ensures (c.from_ram.ensures.finds c.args.seen actions moments reserved asked) in
+    let loads = subst (λ (a : LoadAsk). LoadsRam g c.if-st.p a c.in-NeedsLoad.signed c.args.value c.from_ram.result) c.load_ask-ask.ensures (c.from_ram.ensures.finds c.args.last actions moments asked) in
     loads_by g c.args.key c.args.st.stale c.args.st.plan
     c.in-NeedsLoad.va c.in-NeedsLoad.width c.in-NeedsLoad.signed c.in-NeedsLoad.rd c.args.value c.args.at c.args.paddr
     c.in_ok-older-in-NeedsLoad.older c.if-st.p true c.from_ram.result c.in-NeedsLoad.is allowed p ram loads

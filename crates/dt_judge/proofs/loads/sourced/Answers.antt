@@ -6,7 +6,7 @@ use Rattle.dt_judge.proofs.Readings.{read_with_p}
 use Rattle.dt_judge.proofs.loads.sourced.Goals as goal
 
 pub returns-clause-finds : goal.returns-clause-finds
-returns-clause-finds c = λ seen actions moments reserved known.
+returns-clause-finds c = λ last actions moments known.
     let knows = same_knowing c.local.result.now c.args.h.now.keys c.args.m.now.writes actions moments c.args.ask.key c.local.ensures known.knows in
     let stores = subst (λ (k : Kept). Keeps k actions) (sym c.stores.ensures) known.stores in
     (c.ram_load.result, c.with_p.ensures.places, c.ram_load.ensures actions moments stores knows known.judged, c.with_p.ensures.value)

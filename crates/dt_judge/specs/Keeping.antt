@@ -1,48 +1,65 @@
 use Rattle.std.specs.Prelude.{ℕ, ◌≡◌, None, Some, Option, List, IsTrue}
+use Rattle.std.specs.Option.{unwrap_or}
+use Rattle.dt_alu.specs.Words.{sum_of}
 use Rattle.dt_record.specs.declared.accesses.LoadAsk.{LoadAsk}
 use Rattle.dt_record.specs.declared.keys.Key.{Key}
 use Rattle.dt_record.specs.declared.origins.Letters.{Letters}
 use Rattle.dt_record.specs.declared.origins.Sources.{Sources}
 use Rattle.dt_record.specs.declared.records.Body.{Body}
 use Rattle.dt_record.specs.declared.writes.Write.{Write}
-use Rattle.dt_record.specs.Actions.{Action, Loaded, order_floor}
+use Rattle.dt_record.specs.Actions.{Action, Loaded, Atomic, order_floor}
 use Rattle.dt_record.specs.Lawful.{is_in_ram}
+use Rattle.dt_atomics.specs.Asking.{reads}
 use Rattle.dt_checks.specs.declared.fetching.FetchSpans.{FetchSpans}
 use Rattle.dt_checks.specs.Retiring.{IsAligned}
 use Rattle.dt_hart.specs.HartView.{HartView}
-use Rattle.dt_hart.specs.Taking.{IsDrained}
+use Rattle.dt_hart.specs.Taking.{IsDrained, ReadsAtKey}
 use Rattle.dt_loads.specs.Reading.{IsReading, ask_of}
 use Rattle.dt_local.specs.LocalMemory.{local_memory}
 use Rattle.dt_reference.specs.HartActions.{body_action}
 use Rattle.dt_sources.specs.Knowing.{AreJudged, Knows}
 use Rattle.dt_step.specs.declared.plans.Planned.{Planned}
-use Rattle.dt_step.specs.declared.plans.Planned.TheVariants.{NeedsLoad, NeedsStore}
+use Rattle.dt_step.specs.declared.plans.Planned.TheVariants.{NeedsLoad, NeedsStore, NeedsAtomic}
 use Rattle.dt_stores.specs.Standing.{StandsFor as Keeps}
+use Rattle.dt_traps.specs.declared.traps.TrapSpans.{TrapSpans}
+use Rattle.dt_traps.specs.Instructions.{access_address}
 use Rattle.dt_versions.specs.declared.moments.Span.{Span}
 use Rattle.dt_versions.specs.History.{History}
-use Rattle.dt_versions.specs.Spans.{last_visible}
+use Rattle.dt_windows.specs.Kept.{page_moment}
 use Rattle.dt_judge.specs.Grounds.{Grounds}
 
--- How the grounds of a record are seen from what is kept of its hart, as long as no fence is judged (this project's own).
+-- How the grounds of a record are seen from what is kept of its hart (this project's own).
 
--- all moments up to the greatest that a record with this key may see
-abbrev pub seen_until : List Write → Key → Span
-seen_until writes key = record { first = 0; last = last_visible writes key key.stamp }
+abbrev pub span_of : (first last : ℕ) → Span
+span_of first last = record { first = first; last = last }
 
-abbrev pub fetch_from : Span → FetchSpans
-fetch_from seen = record { first = seen; second = seen; since = seen }
+-- the moments whose translation of an address may be used by a record that may see none after this last one
+abbrev pub window_kept : HartView → (last : ℕ) → (va : ℕ) → Span
+window_kept h last va = span_of (page_moment h.windows va) last
 
--- the grounds where fetches and translations may come from these moments, and the hart did these actions
-abbrev pub unfenced : HartView → History → (seen : Span) → List Action → (ℕ → ℕ) → Option (ℕ × Key) → Grounds
-unfenced h m seen actions moments reserved = record {
+-- the moments for the halves of the instruction at the pc
+abbrev pub fetch_kept : HartView → (last : ℕ) → FetchSpans
+fetch_kept h last = record {
+  first = window_kept h last h.arch.pc;
+  second = window_kept h last (sum_of 64 h.arch.pc 2);
+  since = span_of h.windows.instructions last;
+}
+
+-- the moments for a trap: of the fetch, and of the page that its instruction accesses, if it accesses one
+abbrev pub trap_kept : HartView → (last : ℕ) → (bits : ℕ) → TrapSpans
+trap_kept h last bits = record { fetch = fetch_kept h last; access = window_kept h last (unwrap_or (access_address h.arch bits) 0) }
+
+-- the grounds of such a record, where its hart did these actions
+abbrev pub grounds_kept : HartView → History → (last : ℕ) → List Action → (ℕ → ℕ) → Grounds
+grounds_kept h m last actions moments = record {
   image = m.image;
   writes = m.writes;
   arch = h.arch;
   actions = actions;
   moments = moments;
-  reserved = reserved;
-  fetch = fetch_from seen;
-  window = λ va. seen;
+  reserved = h.reserved;
+  fetch = fetch_kept h last;
+  window = window_kept h last;
 }
 
 -- what is kept of a hart is what these actions left, of which the loads read at these moments, before a record with this key
@@ -69,12 +86,19 @@ IsReadBy image writes actions moments (NeedsLoad va width signed rd) key value a
     IsTrue (is_in_ram paddr) → HasReading image writes actions moments (ask_of key at paddr width value) sources
 IsReadBy image writes actions moments plan key value at paddr sources = Unit {0}
 
--- an action that is a load from RAM did
+-- an LR or AMO with this plan had its bytes from the writes with smaller keys
+abbrev pub IsAccessedBy : List Write → Planned → Key → (paddr width : ℕ) → Sources → Type 0
+IsAccessedBy writes (NeedsAtomic va planned op aq rl rd operand) key paddr width sources = IsTrue (reads op) → ReadsAtKey writes key paddr width sources
+IsAccessedBy writes plan key paddr width sources = Unit {0}
+
+-- an action that is a load from RAM did, or one that is an LR or AMO had its bytes from these sources
 abbrev pub IsReadIn : List ℕ → List Write → List Action → (ℕ → ℕ) → Option Action → Sources → Type 0
 IsReadIn image writes actions moments (Some (Loaded ask)) sources = HasReading image writes actions moments ask sources
+IsReadIn image writes actions moments (Some (Atomic key addr width reads acquires)) sources =
+    IsTrue reads → ReadsAtKey writes key addr width sources
 IsReadIn image writes actions moments action sources = Unit {0}
 
--- what was found of the body of an allowed record: where a load read, and which stores a drain took
+-- what was found of the body of an allowed record: where a load, an LR or an AMO read, and which stores a drain took
 pub record WasFound (image : List ℕ) (writes : List Write) (actions : List Action) (moments : ℕ → ℕ) (key : Key) (body : Body) (sources : Sources) : Type 0 where
   pub is_read : IsReadIn image writes actions moments (body_action key body) sources
   pub is_drained : IsDrained actions body

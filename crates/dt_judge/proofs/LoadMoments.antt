@@ -1,0 +1,133 @@
+use Rattle.std.proofs.Common.{ℕ, ◌≡◌, ◌+◌, ◌<◌, ◌≤◌, false, Option, Some, None, List, [], ◌∷◌, ◌++◌, length, take, zero, suc, refl, sym, ap, ◌∙◌, subst, arith}
+use Rattle.std.specs.Prelude.{IfSome}
+use Rattle.std.specs.List.{slice_get}
+use Rattle.std.proofs.lemmas.List.{take-append-le}
+use Rattle.std.proofs.lemmas.Option.{slice_get_within}
+use Rattle.dt_record.specs.declared.accesses.LoadAsk.{LoadAsk}
+use Rattle.dt_record.specs.declared.origins.Origin.{Origin}
+use Rattle.dt_record.specs.declared.writes.Write.{Write}
+use Rattle.dt_record.specs.Actions.{Action, Stored, Drained, Fenced, Loaded, Atomic}
+use Rattle.dt_record.specs.LoadSources.{FitsLoad, KeepsFloor, Rank, origin_at, rank, rank_below}
+use Rattle.dt_sources.specs.Choice.{ChoosesLeast, FitsThere}
+use Rattle.dt_judge.specs.Laws.{AgreeAtLoads}
+
+-- What a load may read depends on the actions before it and the moments of the loads among these alone, so least choices
+-- are made in one way.
+
+pub slice_get-append_left : {X : Type 0} (xs ys : List X) (i : ℕ) → i < length xs → slice_get (xs ++ ys) i ≡ slice_get xs i
+slice_get-append_left [] ys i within = absurd (omega arith)
+slice_get-append_left (x ∷ xs) ys zero within = refl
+slice_get-append_left (x ∷ xs) ys (suc i) within = slice_get-append_left xs ys i (omega arith)
+
+-- the source of a byte depends on the moment where a load had it
+pub same_origin : (writes : List Write) (before : List Action) (j k : ℕ) (action : Action) (byte : ℕ) → ((ask : LoadAsk) → action ≡ Loaded ask → k ≡ j)
+    → origin_at writes before j action byte ≡ origin_at writes before k action byte
+same_origin writes before j k (Loaded ask) byte same = ap (λ n. origin_at writes before n (Loaded ask) byte) (sym (same ask refl))
+same_origin writes before j k (Stored store) byte same = refl
+same_origin writes before j k (Drained key line count) byte same = refl
+same_origin writes before j k (Fenced ww wr rr) byte same = refl
+same_origin writes before j k (Atomic key addr width reads acquires) byte same = refl
+
+-- the byte that an action had, where there is one and it had it, does not stand above this one
+abbrev IsReadBelow : List Write → Option Action → (before all : List Action) → (moment byte : ℕ) → Rank → Type 0
+IsReadBelow writes found before all moment byte own =
+    IfSome found (λ action. IfSome (origin_at writes before moment action byte) (λ o. rank_below own (rank all o) ≡ false))
+
+at_moment : (writes : List Write) (found : Option Action) (before all : List Action) (j k byte : ℕ) (own : Rank) → ((ask : LoadAsk) → found ≡ Some (Loaded ask) → k ≡ j)
+    → IsReadBelow writes found before all j byte own → IsReadBelow writes found before all k byte own
+at_moment writes None before all j k byte own same keeps = keeps
+at_moment writes (Some action) before all j k byte own same keeps =
+    subst (λ (o : Option Origin). IfSome o (λ o. rank_below own (rank all o) ≡ false)) (same_origin writes before j k action byte (λ ask is. same ask (ap Some is))) keeps
+
+at_actions : (writes : List Write) (found there : Option Action) (before past all every : List Action) (moment byte : ℕ) (own : Rank) → found ≡ there → before ≡ past → all ≡ every
+    → IsReadBelow writes found before all moment byte own → IsReadBelow writes there past every moment byte own
+at_actions writes found there before past all every moment byte own same_action same_front same_all keeps =
+    subst (λ actions. IsReadBelow writes there past actions moment byte own) same_all
+    (subst (λ actions. IsReadBelow writes there actions all moment byte own) same_front
+    (subst (λ action. IsReadBelow writes action before all moment byte own) same_action keeps))
+
+-- two lists of actions are the same before a place, and two assignments at the loads before it
+pub record AreSameBefore (place : ℕ) (actions others : List Action) (moments again : ℕ → ℕ) : Type 0 where
+  pub all : take place actions ≡ take place others
+  pub front : (m : ℕ) → m < place → take m actions ≡ take m others
+  pub found : (m : ℕ) → m < place → slice_get actions m ≡ slice_get others m
+  pub moment : (m : ℕ) (ask : LoadAsk) → m < place → slice_get actions m ≡ Some (Loaded ask) → again m ≡ moments m
+
+floor_along : (writes : List Write) (actions others : List Action) (moments again : ℕ → ℕ) (place : ℕ) (ask : LoadAsk) (byte : ℕ) (own : Rank)
+    → AreSameBefore place actions others moments again
+    → KeepsFloor writes actions moments place ask byte own → KeepsFloor writes others again place ask byte own
+floor_along writes actions others moments again place ask byte own same keeps = record {
+  reads = λ m before.
+      at_actions writes (slice_get actions m) (slice_get others m) (take m actions) (take m others) (take place actions) (take place others) (again m) byte own
+      (same.found m before) (same.front m before) same.all
+      (at_moment writes (slice_get actions m) (take m actions) (take place actions) (moments m) (again m) byte own (λ a there. same.moment m a before there) (keeps.reads m before));
+  own_writes = keeps.own_writes;
+}
+
+pub fits_along : (image : List ℕ) (writes : List Write) (actions others : List Action) (moments again : ℕ → ℕ) (place : ℕ) (ask : LoadAsk) (k : ℕ)
+    → AreSameBefore place actions others moments again
+    → FitsThere image writes actions moments place ask k → FitsThere image writes others again place ask k
+fits_along image writes actions others moments again place ask k same fits =
+    subst (λ before. FitsLoad image writes before (KeepsFloor writes others again place ask) ask k) same.all
+    (record {
+      visible = fits.visible;
+      value = fits.value;
+      floor = λ i within. floor_along writes actions others moments again place ask _ _ same (fits.floor i within);
+    })
+
+-- other moments for the same actions
+pub same_actions : (place : ℕ) (actions : List Action) (moments others : ℕ → ℕ)
+    → ((m : ℕ) (ask : LoadAsk) → m < place → slice_get actions m ≡ Some (Loaded ask) → others m ≡ moments m)
+    → AreSameBefore place actions actions moments others
+same_actions place actions moments others same = record { all = refl; front = λ m before. refl; found = λ m before. refl; moment = same }
+
+-- actions with more of them
+pub same_front : (place : ℕ) (actions more : List Action) (moments : ℕ → ℕ) → place ≤ length actions → AreSameBefore place (actions ++ more) actions moments moments
+same_front place actions more moments within = record {
+  all = take-append-le place actions more within;
+  front = λ m before. take-append-le m actions more (omega arith);
+  found = λ m before. slice_get-append_left actions more m (omega arith);
+  moment = λ m ask before there. refl;
+}
+
+same_longer : (place : ℕ) (actions more : List Action) (moments : ℕ → ℕ) → place ≤ length actions → AreSameBefore place actions (actions ++ more) moments moments
+same_longer place actions more moments within = record {
+  all = sym (take-append-le place actions more within);
+  front = λ m before. sym (take-append-le m actions more (omega arith));
+  found = λ m before. sym (slice_get-append_left actions more m (omega arith));
+  moment = λ m ask before there. refl;
+}
+
+-- ---- least choices
+
+-- least choices are so among the first actions
+pub chosen_front : (image : List ℕ) (writes : List Write) (actions more : List Action) (moments : ℕ → ℕ)
+    → ChoosesLeast image writes (actions ++ more) moments → ChoosesLeast image writes actions moments
+chosen_front image writes actions more moments chosen = record {
+  fits = λ place ask there.
+      let within = slice_get_within actions place (Loaded ask) there in
+      fits_along image writes (actions ++ more) actions moments moments place ask (moments place) (same_front place actions more moments (omega arith))
+      (chosen.fits place ask (slice_get-append_left actions more place within ∙ there));
+  least = λ place ask there k fits.
+      let within = slice_get_within actions place (Loaded ask) there in
+      chosen.least place ask (slice_get-append_left actions more place within ∙ there) k
+      (fits_along image writes actions (actions ++ more) moments moments place ask k (same_longer place actions more moments (omega arith)) fits);
+}
+
+agree_below : (image : List ℕ) (writes : List Write) (actions : List Action) (moments others : ℕ → ℕ)
+    → ChoosesLeast image writes actions moments → ChoosesLeast image writes actions others
+    → (bound place : ℕ) (ask : LoadAsk) → place < bound → slice_get actions place ≡ Some (Loaded ask) → others place ≡ moments place
+agree_below image writes actions moments others one other zero place ask below there = absurd (omega arith)
+agree_below image writes actions moments others one other (suc bound) place ask below there =
+    let same : (m : ℕ) (a : LoadAsk) → m < place → slice_get actions m ≡ Some (Loaded a) → others m ≡ moments m
+    = λ m a before at. agree_below image writes actions moments others one other bound m a (omega arith) at in
+    let low = one.least place ask there (others place)
+    (fits_along image writes actions actions others moments place ask (others place) (same_actions place actions others moments (λ m a before at. sym (same m a before at))) (other.fits place ask there)) in
+    let high = other.least place ask there (moments place)
+    (fits_along image writes actions actions moments others place ask (moments place) (same_actions place actions moments others same) (one.fits place ask there)) in
+    omega arith
+
+-- two least choices agree at each load
+pub choices_agree : (image : List ℕ) (writes : List Write) (actions : List Action) (moments others : ℕ → ℕ)
+    → ChoosesLeast image writes actions moments → ChoosesLeast image writes actions others → AgreeAtLoads actions moments others
+choices_agree image writes actions moments others one other place ask there = agree_below image writes actions moments others one other (place + 1) place ask (omega arith) there

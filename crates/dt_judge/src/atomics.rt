@@ -1,0 +1,116 @@
+ghost use Rattle.std.specs.Prelude.{◌≡◌, ◌≤◌, ℕ, List, length, IsTrue, OnOk, IfOk};
+ghost use Rattle.dt_atomics.specs.Asking.{reads};
+ghost use Rattle.dt_checks.specs.Retiring.{AccessesAligned, due_tag};
+ghost use Rattle.dt_hart.specs.Taking.{ReadsAtKey};
+ghost use Rattle.dt_record.specs.declared.records.Body.TheVariants as body;
+ghost use Rattle.dt_record.specs.Actions.{Action};
+ghost use Rattle.dt_record.specs.Lawful.{is_atomic_place, is_instruction};
+ghost use Rattle.dt_reference.specs.HartActions.{body_action};
+ghost use Rattle.dt_reference.specs.Run.{CanRetire};
+ghost use Rattle.dt_traps.specs.Instructions.{atomic_access};
+ghost use Rattle.dt_judge.specs.Keeping.{IsAccessedBy, IsReadIn, Remembers, grounds_kept};
+ghost use Rattle.dt_judge.specs.Kinds.{Accesses, AtomicBy, IsAtomicFinding};
+
+use crate::kinds::{PLAIN, with_p};
+use crate::spans::{accessed, started};
+use dt_atomics::AtomicAccess;
+use dt_checks::Started;
+use dt_hart::Hart;
+use dt_loads::Passed;
+use dt_record::{Key, Retire};
+use dt_rules::Misfit;
+use dt_step::{AtomicOp, Planned};
+use dt_versions::Moments;
+use dt_walk::Access;
+
+/// What the record of an atomic says beside its pc and its bits.
+#[derive(Clone, Copy, Debug, PartialEq, Eq)]
+pub struct Said {
+    pub value: u64,
+    pub paddr: u64,
+    pub width: u8,
+    pub wrote: bool,
+    pub new: u64,
+}
+
+/// How an atomic's address is translated: LR is a load, SC and AMO are stores.
+fn access_of(op: AtomicOp) -> Access
+    ensures { result ≡ atomic_access op }
+{
+    match op {
+        AtomicOp::Lr => Access::Load,
+        AtomicOp::Sc | AtomicOp::Amo(_) => Access::Store,
+    }
+}
+
+/// An atomic at an allowed address. `p` is whether its fetch or its address is older.
+fn at_address(h: &Hart, m: &Moments, p: bool, key: Key, x: AtomicAccess) -> Result<Passed, Misfit>
+    requires { IsTrue (is_atomic_place x.paddr x.width) }
+    ensures finds { (last : ℕ) (actions : List Action) (moments : ℕ → ℕ) → Remembers h.now m.now.writes key actions moments → Accesses (grounds_kept h.now m.now last actions moments) key p x result }
+    ensures read { IfOk result (λ passed. (actions : List Action) (moments : ℕ → ℕ) → Remembers h.now m.now.writes key actions moments → IsTrue (reads x.op) → ReadsAtKey m.now.writes key x.paddr x.said_width passed.sources) }
+{
+    with_p(
+        p,
+        dt_atomics::atomic(m, h.stores(), h.local(), h.reserved(), key, x),
+    )
+}
+
+/// An atomic after the checks that its instruction begins with.
+fn planned(
+    h: &Hart,
+    m: &Moments,
+    last: u32,
+    key: Key,
+    st: Started,
+    said: Said,
+) -> Result<Passed, Misfit>
+    requires within { last ≤ length m.now.writes }
+    requires aligned { AccessesAligned st.plan }
+    requires due { due_tag st.plan ≡ 7 }
+    ensures finds { (actions : List Action) (moments : ℕ → ℕ) → Remembers h.now m.now.writes key actions moments → AtomicBy (grounds_kept h.now m.now last actions moments) key st.stale st.plan said result }
+    ensures read { IfOk result (λ passed. (actions : List Action) (moments : ℕ → ℕ) → Remembers h.now m.now.writes key actions moments → IsAccessedBy m.now.writes st.plan key said.paddr said.width passed.sources) }
+{
+    match st.plan {
+        Planned::NeedsAtomic {
+            va,
+            width,
+            op,
+            rl,
+            operand,
+            ..
+        } => {
+            let older = accessed(h, m, last, access_of(op), true, va, said.paddr)?;
+            let x = AtomicAccess {
+                op,
+                width,
+                release: rl,
+                operand,
+                paddr: said.paddr,
+                value: said.value,
+                said_width: said.width,
+                wrote: said.wrote,
+                new: said.new,
+            };
+            at_address(h, m, st.stale || older, key, x)
+        }
+        _ => Ok(PLAIN),
+    }
+}
+
+pub fn atomic(
+    h: &Hart,
+    m: &Moments,
+    last: u32,
+    key: Key,
+    retire: Retire,
+    said: Said,
+) -> Result<Passed, Misfit>
+    requires within { last ≤ length m.now.writes }
+    requires instruction { IsTrue (is_instruction retire.bits) }
+    ensures finds { (actions : List Action) (moments : ℕ → ℕ) → Remembers h.now m.now.writes key actions moments → IsAtomicFinding (grounds_kept h.now m.now last actions moments) key retire.pc retire.bits said result }
+    ensures can_retire { OnOk result (CanRetire h.now.arch retire.bits) }
+    ensures read { IfOk result (λ passed. (actions : List Action) (moments : ℕ → ℕ) → Remembers h.now m.now.writes key actions moments → IsReadIn m.now.image m.now.writes actions moments (body_action key (body.Atomic retire said.paddr said.width said.wrote said.new)) passed.sources) }
+{
+    let st = started(h, m, last, retire.pc, retire.bits, 7)?;
+    planned(h, m, last, key, st, said)
+}
