@@ -1,7 +1,6 @@
 -- The records of one hart among those of a file.
 use Rattle.std.proofs.Common.{ℕ, ◌≡◌, ◌≤◌, ◌<◌, ◌+◌, ◌==◌, Bool, true, false, List, [], ◌∷◌, ◌++◌, length, filter, get_or, take, drop, refl, sym, ap, ◌∙◌, subst, inl, inr, nat_le, arith, zero, suc}
 use Rattle.std.specs.List.{list_all}
-use Rattle.std.specs.Option.{option_to_list}
 use Rattle.std.proofs.lemmas.Bool.{and_parts, and_from, cases_Bool, cond-true, cond-false, eqb-true, eqb-false, eq-eqb, ne_eqb, leb-true, le-leb}
 use Rattle.std.proofs.lemmas.List.{append-nil, drop_more, take-append-drop}
 use Rattle.std.proofs.lemmas.List.Elements.{filter-append, filter_more}
@@ -11,7 +10,6 @@ use Rattle.dt_record.specs.declared.records.Body.TheVariants.{Commit}
 use Rattle.dt_record.specs.Keys.{records_of}
 use Rattle.dt_record.specs.Lawful.{is_lawful}
 use Rattle.dt_record.specs.ProbeFile.{AreRecords, no_stamps, stamped}
-use Rattle.dt_record.specs.Writes.{write_of_record}
 use Rattle.dt_versions.specs.History.{History, are_in_order}
 use Rattle.dt_hart.specs.OwnWrites.{are_of, are_rising}
 use Rattle.dt_hart.specs.Settings.{stamp_from}

@@ -47,3 +47,8 @@ pub record IsFirstFailure (image : List ℕ) (wide : Bool) (harts : ℕ) (record
 abbrev pub FailIsFirst : Type 0
 FailIsFirst = (image : List ℕ) (wide : Bool) (harts : ℕ) (records : List Record) (checked : Checked) (f : Failure) → IsChecked image wide harts records checked
     → checked.verdict ≡ Fail f → IsFirstFailure image wide harts records f
+
+-- the records of a file have one check over an image
+abbrev pub AFileHasOneCheck : Type 0
+AFileHasOneCheck = (image : List ℕ) (wide : Bool) (harts : ℕ) (records : List Record) (one other : Checked)
+    → IsChecked image wide harts records one → IsChecked image wide harts records other → one ≡ other

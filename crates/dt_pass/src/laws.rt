@@ -1,5 +1,7 @@
 //! Laws of the definitions, for the crates above. The functions do nothing.
-ghost use Rattle.dt_pass.specs.Laws.{FailIsFirst, PassIsAllAllowed};
+ghost use Rattle.dt_pass.specs.Laws.{AFileHasOneCheck, FailIsFirst, PassIsAllAllowed};
+
+use dt_judge::runs_have_one_end;
 
 /// Where the verdict is Pass, each record of each hart is allowed.
 pub fn pass_is_all_allowed()
@@ -11,3 +13,10 @@ pub fn pass_is_all_allowed()
 pub fn fail_is_first()
     ensures { FailIsFirst }
 {}
+
+/// The verdict, the counts and the named records are determined by the image and the records.
+pub fn a_file_has_one_check()
+    ensures { AFileHasOneCheck }
+{
+    runs_have_one_end();
+}

@@ -10,4 +10,4 @@ mod running;
 mod tests;
 
 pub use checking::pass;
-pub use laws::{fail_is_first, pass_is_all_allowed};
+pub use laws::{a_file_has_one_check, fail_is_first, pass_is_all_allowed};

@@ -1,5 +1,5 @@
 //! Whole probe files, as the program gets them.
-use crate::{fail_is_first, pass, pass_is_all_allowed};
+use crate::{a_file_has_one_check, fail_is_first, pass, pass_is_all_allowed};
 use dt_probe_file::FileProbes;
 use dt_record::{Body, Image, Key, Letters, Origin, Reason, Record, Retire, Sources, lawful};
 use dt_record_bytes::encode;
@@ -197,6 +197,7 @@ fn retired(records: u32) -> Counts {
 fn one_hart_alone(rt: HostRuntime) -> Result<(), Fail> {
     pass_is_all_allowed();
     fail_is_first();
+    a_file_has_one_check();
     let value = fail(key(1, 0, 0), Reason::Value, 5, 6);
     for (found, verdict, count) in [(5, Verdict::Pass, 1), (6, value, 0)] {
         let bytes = file(rt.alloc(), 1, &[commit(1, 0, 0, FIVE, found)])?;
