@@ -5,7 +5,6 @@
 
 mod accesses;
 mod atomics;
-mod built;
 mod effects;
 mod harts;
 mod laws;
@@ -14,7 +13,6 @@ mod places;
 #[cfg(test)]
 mod tests;
 
-pub use built::is_built;
 pub use harts::Hart;
 pub use laws::known_at_next;
 pub use places::is_placed;

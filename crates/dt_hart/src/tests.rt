@@ -1,4 +1,4 @@
-use crate::{Hart, is_built, is_placed, known_at_next};
+use crate::{Hart, is_placed, known_at_next};
 use dt_record::{Body, Key, Origin, Record, Retire, Sources, lawful};
 use dt_reference::can_follow;
 use std::process::Abort;
@@ -197,26 +197,4 @@ fn fences_begin_windows(rt: HostRuntime) -> Result<(), Fail> {
         assert_eq!(rt; kept, (instructions, page, other), "{bits:x}");
     }
     Ok(())
-}
-
-#[test]
-fn fences_atomics_and_translation_wait(rt: HostRuntime) {
-    for (bits, built) in [
-        (0x0000_0297, true),
-        (0x3040_9073, true),
-        (0xffff_ffff, true),
-        (0x0330_000f, false),
-        (0x0000_100f, false),
-        (0x1005_35af, false),
-        (0x1800_5073, false),
-        (0x1200_0073, false),
-    ] {
-        let event = Record {
-            stamp: 0,
-            hart: 0,
-            body: commit(0x8000_0000, bits, 0),
-        };
-        assert!(rt; lawful(&event));
-        assert_eq!(rt; is_built(&event), built, "{bits:x}");
-    }
 }

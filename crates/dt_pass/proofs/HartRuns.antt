@@ -16,7 +16,6 @@ use Rattle.dt_rules.specs.declared.misfits.Misfit.{Misfit}
 use Rattle.dt_loads.specs.declared.reading.Passed.{Passed}
 use Rattle.dt_reference.specs.HartActions.{action_of, actions_of}
 use Rattle.dt_sources.specs.Choice.{ChoosesLeast, LeastChoiceIsLeast}
-use Rattle.dt_hart.specs.Built.{is_built}
 use Rattle.dt_hart.specs.HartView.{HartView}
 use Rattle.dt_hart.specs.OwnWrites.{GoesOn, are_of, are_rising}
 use Rattle.dt_writes.specs.OwnWrites.{own_writes_from}
@@ -98,7 +97,6 @@ meets held wide hart own before h r more moments are is stands = record {
   stands = stands;
   goes_on = goes_on held wide hart own before r more moments are is;
   lawful = all_front is_lawful before (r ∷ more) (ap (list_all is_lawful) (sym is) ∙ are.lawful);
-  built = all_front is_built before (r ∷ more) (ap (list_all is_built) (sym is) ∙ are.built);
   image = refl;
   later = [];
   writes = sym (append-nil held.writes);

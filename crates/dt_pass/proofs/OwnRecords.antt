@@ -11,7 +11,6 @@ use Rattle.dt_record.specs.Keys.{records_of}
 use Rattle.dt_record.specs.Lawful.{is_lawful}
 use Rattle.dt_record.specs.ProbeFile.{AreRecords, no_stamps, stamped}
 use Rattle.dt_versions.specs.History.{History, are_in_order}
-use Rattle.dt_hart.specs.Built.{is_built}
 use Rattle.dt_hart.specs.OwnWrites.{are_of, are_rising}
 use Rattle.dt_hart.specs.Settings.{stamp_from}
 use Rattle.dt_writes.specs.Laws.{OwnWritesAreOfRecords, WritesStandInOrder}
@@ -29,7 +28,6 @@ pub record AreOwn (held : History) (hart : ℕ) (own : List Record) : Type 0 whe
   pub in_order : are_in_order held.writes ≡ true
   pub writes : filter (λ w. w.key.hart == hart) held.writes ≡ own_writes_from 0 own
   pub lawful : list_all is_lawful own ≡ true
-  pub built : list_all is_built own ≡ true
   pub few : length own ≤ 4_194_304
 
 all_of : (hart : ℕ) (rs : List Record) → are_of hart (records_of hart rs) ≡ true
@@ -94,7 +92,6 @@ are_own held records hart can own in_order = record {
   in_order = ap are_in_order can.writes ∙ in_order records;
   writes = ap (λ ws. filter (λ w. w.key.hart == hart) ws) can.writes ∙ own records hart can.file;
   lawful = all_kept is_lawful (λ r. r.hart == hart) records (all_lawful can.file.harts no_stamps records can.file.each);
-  built = all_kept is_built (λ r. r.hart == hart) records can.built;
   few = omega (arith, can.file.few_records, length-filter (λ (r : Record). r.hart == hart) records, count_by-le-length (λ (r : Record). r.hart == hart) records);
 }
 

@@ -1,7 +1,5 @@
 -- A stream between two of its answers.
 use Rattle.std.proofs.Common.{◌≡◌, ◌∙◌, ◌<◌, ◌≤◌, ◌+◌, ◌-◌, ◌==◌, ◌≢◌, ℕ, Bool, true, false, List, [], ◌∷◌, ◌++◌, Option, Some, None, IsSome, IsSomeAnd, IfSome, is_some, length, cond, map, filter, refl, sym, ap, subst, append_assoc, arith}
-use Rattle.std.specs.List.{list_all}
-use Rattle.std.proofs.lemmas.Bool.{and_from, cond-true, cond-false}
 use Rattle.std.proofs.lemmas.List.{length-append, map-append}
 use Rattle.std.proofs.lemmas.List.Elements.{filter-append}
 use Rattle.dt_record.specs.declared.records.Record.{Record}
@@ -10,11 +8,8 @@ use Rattle.dt_record.specs.declared.streams.Next.TheVariants.{Header, Event, End
 use Rattle.dt_record.specs.ProbeFile.{AreRecords, IsNext, no_stamps, stamped}
 use Rattle.dt_record.specs.Streams.{Progress, IsFresh, TakesHeader, TakesRecord, TakesAnswer, EndsWith}
 use Rattle.dt_record.specs.Writes.{writes_memory}
-use Rattle.dt_hart.specs.Built.{is_built}
 use Rattle.dt_verdict.specs.declared.answers.Refusal.{Refusal}
-use Rattle.dt_verdict.specs.declared.answers.Refusal.TheVariants as refusal
-use Rattle.dt_pass.specs.Reading.{HasCome, IsRefusedAt, first_answers, refusal_from, refusal_in}
-use Rattle.dt_pass.specs.Underway.{IsUnbuiltAt}
+use Rattle.dt_pass.specs.Reading.{HasCome, first_answers, refusal_in}
 
 -- the answers that came
 abbrev pub so_far : Option ℕ → Bool → List Record → List Next
@@ -49,7 +44,6 @@ pub record IsUnderway (told left : Option (List Next)) (harts : ℕ) (wide : Boo
   pub open_still : p.ended ≡ None
   pub unopened : p.harts ≡ None → records ≡ []
   pub opened : (h : ℕ) → p.harts ≡ Some h → IsOpened h harts wide records p
-  pub built : list_all is_built records ≡ true
 
 -- how many more answers may come
 abbrev pub remaining : Progress → ℕ
@@ -80,7 +74,6 @@ starts told harts wide p fresh = record {
   open_still = fresh.open_still;
   unopened = λ _. refl;
   opened = λ h is. let bad : None ≡ Some h = sym fresh.no_header ∙ is in cc;
-  built = refl;
 }
 
 -- ---- an answer
@@ -139,7 +132,6 @@ after_header told left after harts h wide w records old new u takes t =
         writes = ap (λ (z : List Record). length (filter writes_memory z)) none ∙ sym t.no_writes;
         few_writes = omega (arith, t.no_writes);
       };
-      built = u.built;
     }
 
 pub fewer_after_header : (old new : Progress) (harts : ℕ) (wide : Bool) → TakesHeader old harts wide new → remaining new < remaining old
@@ -176,10 +168,6 @@ writes-push rs r =
     one true = refl
     one false = refl
 
-built-push : (rs : List Record) (r : Record) → list_all is_built rs ≡ true → is_built r ≡ true → list_all is_built (rs ++ r ∷ []) ≡ true
-built-push [] r all one = and_from (is_built r) true one refl
-built-push (q ∷ qs) r all one = grind (arith, built-push qs r)
-
 opened_record : (h harts : ℕ) (wide : Bool) (records : List Record) (old new : Progress) (r : Record) → old.harts ≡ Some h → TakesRecord old r new → IsOpened h harts wide records old
     → IsOpened h harts wide (records ++ r ∷ []) new
 opened_record h harts wide records old new r is t o =
@@ -204,9 +192,9 @@ so_far-push None h wide records r is = cc
 so_far-push (Some harts) h wide records r is = ap (λ (z : List Next). Header harts wide ∷ z) (sym (map-append (λ (q : Record). Event q) records (r ∷ [])))
 
 pub after_record : (told left after : Option (List Next)) (harts : ℕ) (wide : Bool) (records : List Record) (old new : Progress) (r : Record)
-    → IsUnderway told left harts wide records old → TakesAnswer left (Event r) after → TakesRecord old r new → is_built r ≡ true
+    → IsUnderway told left harts wide records old → TakesAnswer left (Event r) after → TakesRecord old r new
     → IsUnderway told after harts wide (records ++ r ∷ []) new
-after_record told left after harts wide records old new r u takes t built =
+after_record told left after harts wide records old new r u takes t =
     let next = some_and old.harts _ t.next in
     record {
       came = comes_next told left after (so_far old.harts wide records) (so_far new.harts wide (records ++ r ∷ [])) (Event r) takes (λ e. cc) (λ e. cc)
@@ -215,7 +203,6 @@ after_record told left after harts wide records old new r u takes t built =
       open_still = t.open_still;
       unopened = λ e. let bad : Some next.0 ≡ None = sym next.1 ∙ sym t.harts_stay ∙ e in cc;
       opened = λ h is. let was : old.harts ≡ Some h = sym t.harts_stay ∙ is in opened_record h harts wide records old new r was t (u.opened h was);
-      built = built-push records r u.built built;
     }
 
 pub fewer_after_record : (old new : Progress) (r : Record) → TakesRecord old r new → remaining new < remaining old
@@ -225,9 +212,6 @@ fewer_after_record old new r t =
     rw (next.1, new_some) (omega (arith, t.one_event, t.few_events))
 
 -- ---- the last answer
-
-pub lawful_next : (old new : Progress) (r : Record) → TakesRecord old r new → (h : ℕ) × IsNext h old.stamps r
-lawful_next old new r t = let next = some_and old.harts _ t.next in (next.0, next.2)
 
 ends : (told left after : Option (List Next)) (given next : List Next) (answer : Next) → TakesAnswer left answer after → answer ≢ ReadFault → answer ≢ OutOfMemory
     → given ≡ next → IfSome told (λ answers. HasGiven answers left given) → IfSome told (λ answers. (more : List Next) × (answers ≡ next ++ answer ∷ more))
@@ -257,62 +241,31 @@ at_end told left after harts count wide records old new u takes step =
         few_records = omega (arith, o.events, o.few_events);
         few_writes = omega (arith, o.writes, o.few_writes);
       };
-      built = u.built;
     }
 
 -- ---- refusals
 
-refusal_from-built : (n : ℕ) (rs : List Record) (rest : List Next) → list_all is_built rs ≡ true → refusal_from n (map (λ r. Event r) rs ++ rest) ≡ refusal_from (n + length rs) rest
-refusal_from-built n [] rest all = ap (λ k. refusal_from k rest) (omega arith)
-refusal_from-built n (q ∷ qs) rest all =
-    let one : is_built q ≡ true = grind arith in
-    let others : list_all is_built qs ≡ true = grind arith in
-    cond-true (is_built q) (refusal_from (n + 1) (map (λ r. Event r) qs ++ rest)) (Some (refusal.Unbuilt n)) one
-    ∙ refusal_from-built (n + 1) qs rest others
-    ∙ ap (λ k. refusal_from k rest) (omega arith)
+refusal-events : (rs : List Record) (rest : List Next) → refusal_in (map (λ r. Event r) rs ++ rest) ≡ refusal_in rest
+refusal-events [] rest = refl
+refusal-events (q ∷ qs) rest = refusal-events qs rest
 
-refusal-so_far : (o : Option ℕ) (wide : Bool) (records : List Record) (rest : List Next) → (o ≡ None → records ≡ []) → list_all is_built records ≡ true
-    → refusal_in (so_far o wide records ++ rest) ≡ refusal_from (length records) rest
-refusal-so_far None wide records rest none built = ap (λ n. refusal_from n rest) (ap length (sym (none refl)))
-refusal-so_far (Some harts) wide records rest none built = refusal_from-built 0 records rest built ∙ ap (λ k. refusal_from k rest) (omega arith)
+refusal-so_far : (o : Option ℕ) (wide : Bool) (records : List Record) (rest : List Next) → refusal_in (so_far o wide records ++ rest) ≡ refusal_in rest
+refusal-so_far None wide records rest = refl
+refusal-so_far (Some harts) wide records rest = refusal-events records rest
 
--- the records are refused where the next answer is, or the next record
+-- the records are refused where the next answer is a refusal
 pub refused : (told left after : Option (List Next)) (harts : ℕ) (wide : Bool) (records : List Record) (p : Progress) (answer : Next) (r : Refusal)
     → IsUnderway told left harts wide records p → TakesAnswer left answer after → answer ≢ ReadFault → answer ≢ OutOfMemory
-    → ((more : List Next) → refusal_from (length records) (answer ∷ more) ≡ Some r) → IfSome told (λ answers. refusal_in answers ≡ Some r)
+    → ((more : List Next) → refusal_in (answer ∷ more) ≡ Some r) → IfSome told (λ answers. refusal_in answers ≡ Some r)
 refused told left after harts wide records p answer r u takes read memory is =
     let given = so_far p.harts wide records in
     told_map told (λ answers. (more : List Next) × (answers ≡ given ++ answer ∷ more)) (λ answers. refusal_in answers ≡ Some r)
     (ends told left after given given answer takes read memory refl u.came)
-    (λ answers h. ap refusal_in h.1 ∙ refusal-so_far p.harts wide records (answer ∷ h.0) u.unopened u.built ∙ is h.0)
-
--- the next record is not judged so far
-pub unbuilt : (told left after : Option (List Next)) (harts : ℕ) (wide : Bool) (records : List Record) (p : Progress) (event : Record) (r : Refusal)
-    → IsUnderway told left harts wide records p → TakesAnswer left (Event event) after → IsUnbuiltAt (length records) event r
-    → r ≢ refusal.ReadFault → r ≢ refusal.OutOfMemory → IfSome told (λ answers. refusal_in answers ≡ Some r)
-unbuilt told left after harts wide records p event (refusal.Unbuilt number) u takes at read memory =
-    refused told left after harts wide records p (Event event) (refusal.Unbuilt number) u takes (λ e. cc) (λ e. cc)
-    (λ more. cond-false (is_built event) (refusal_from (length records + 1) more) (Some (refusal.Unbuilt (length records))) at.0 ∙ ap (λ n. Some (refusal.Unbuilt n)) (sym at.1))
-unbuilt told left after harts wide records p event refusal.OutOfMemory u takes at read memory = absurd (memory refl)
-unbuilt told left after harts wide records p event (refusal.Malformed offset) u takes at read memory = absurd at
-unbuilt told left after harts wide records p event (refusal.Limit what number) u takes at read memory = absurd at
-unbuilt told left after harts wide records p event refusal.ReadFault u takes at read memory = absurd at
-
--- and the stream stands behind it
-pub stands_behind : (told left : Option (List Next)) (harts : ℕ) (wide : Bool) (records : List Record) (old new : Progress) (event : Record) (r : Refusal)
-    → IsUnderway told left harts wide records old → TakesRecord old event new → IsUnbuiltAt (length records) event r → IsRefusedAt new r
-stands_behind told left harts wide records old new event (refusal.Unbuilt number) u t at =
-    let next = some_and old.harts _ t.next in
-    let o = u.opened next.0 next.1 in
-    (t.open_still, omega (arith, at.1, o.events, t.one_event))
-stands_behind told left harts wide records old new event refusal.OutOfMemory u t at = tt
-stands_behind told left harts wide records old new event (refusal.Malformed offset) u t at = absurd at
-stands_behind told left harts wide records old new event (refusal.Limit what number) u t at = absurd at
-stands_behind told left harts wide records old new event refusal.ReadFault u t at = absurd at
+    (λ answers h. ap refusal_in h.1 ∙ refusal-so_far p.harts wide records (answer ∷ h.0) ∙ is h.0)
 
 -- a stream that came to its end is not refused
 pub accepted : (told : Option (List Next)) (p : Progress) (harts : ℕ) (wide : Bool) (records : List Record) → HasCome told p harts wide records
     → IfSome told (λ answers. refusal_in answers ≡ None)
 accepted told p harts wide records came =
     told_map told (λ answers. (more : List Next) × (answers ≡ first_answers harts wide records ++ End (length records) ∷ more)) (λ answers. refusal_in answers ≡ None) came.answers
-    (λ answers h. ap refusal_in h.1 ∙ refusal_from-built 0 records (End (length records) ∷ h.0) came.built)
+    (λ answers h. ap refusal_in h.1 ∙ refusal-events records (End (length records) ∷ h.0))

@@ -2,4 +2,3 @@ pub mod Checked
 pub mod Laws
 pub mod Reading
 pub mod Running
-pub mod Underway

@@ -1,5 +1,4 @@
-use Rattle.std.specs.Prelude.{ℕ, ◌≡◌, ◌≤◌, ◌+◌, Bool, if◌then◌else◌, Option, None, Some, IfSome, List, [], ◌∷◌, ◌++◌, length, map, filter, IsTrue}
-use Rattle.std.specs.List.{list_all}
+use Rattle.std.specs.Prelude.{ℕ, ◌≡◌, ◌≤◌, Bool, Option, None, Some, IfSome, List, [], ◌∷◌, ◌++◌, length, map, filter}
 use Rattle.dt_record.specs.declared.records.Record.{Record}
 use Rattle.dt_record.specs.declared.streams.Next.{Next}
 use Rattle.dt_record.specs.declared.streams.Next.TheVariants as next
@@ -7,9 +6,8 @@ use Rattle.dt_record.specs.declared.streams.Next.TheVariants.{Header, Event, End
 use Rattle.dt_record.specs.ProbeFile.{AreRecords, no_stamps}
 use Rattle.dt_record.specs.Streams.{Progress}
 use Rattle.dt_record.specs.Writes.{writes_memory}
-use Rattle.dt_hart.specs.Built.{is_built}
 use Rattle.dt_verdict.specs.declared.answers.Refusal.{Refusal}
-use Rattle.dt_verdict.specs.declared.answers.Refusal.TheVariants.{Malformed, Limit, ReadFault, Unbuilt, OutOfMemory}
+use Rattle.dt_verdict.specs.declared.answers.Refusal.TheVariants.{Malformed, Limit, ReadFault, OutOfMemory}
 
 -- Which records a stream of probe records gives to be judged, or why it gives none (this project's own).
 
@@ -25,36 +23,28 @@ pub record AreStreamed (harts : ℕ) (records : List Record) : Type 0 where
 abbrev pub first_answers : (harts : ℕ) (wide : Bool) → List Record → List Next
 first_answers harts wide records = Header harts wide ∷ map (λ r. Event r) records
 
--- A stream answered a header, these records and their end, and each of them is of those that are judged so far. Where
--- the stream tells its answers, they are these.
+-- A stream answered a header, these records and their end. Where the stream tells its answers, they are these.
 pub record HasCome (told : Option (List Next)) (p : Progress) (harts : ℕ) (wide : Bool) (records : List Record) : Type 0 where
   pub answers : IfSome told (λ answers. (more : List Next) × (answers ≡ first_answers harts wide records ++ End (length records) ∷ more))
   pub harts_are : p.harts ≡ Some harts
   pub wide_is : p.wide ≡ wide
   pub ended : p.ended ≡ Some (End (length records))
   pub streamed : AreStreamed harts records
-  pub built : IsTrue (list_all is_built records)
 
--- why the records of these answers are not judged, after so many records: the first answer that is a refusal, or the
--- first record that is not judged so far
-abbrev pub refusal_from : (number : ℕ) → List Next → Option Refusal
-refusal_from number [] = None
-refusal_from number (Header harts wide ∷ rest) = refusal_from number rest
-refusal_from number (Event r ∷ rest) = if is_built r then refusal_from (number + 1) rest else Some (Unbuilt number)
-refusal_from number (End count ∷ rest) = None
-refusal_from number (next.Malformed offset ∷ rest) = Some (Malformed offset)
-refusal_from number (next.Limit what limit ∷ rest) = Some (Limit what limit)
-refusal_from number (next.ReadFault ∷ rest) = Some ReadFault
-refusal_from number (next.OutOfMemory ∷ rest) = Some OutOfMemory
-
+-- why the records of these answers are not judged: the answer that ended them, where it is not their end
 abbrev pub refusal_in : List Next → Option Refusal
-refusal_in answers = refusal_from 0 answers
+refusal_in [] = None
+refusal_in (Header harts wide ∷ rest) = refusal_in rest
+refusal_in (Event r ∷ rest) = refusal_in rest
+refusal_in (End count ∷ rest) = None
+refusal_in (next.Malformed offset ∷ rest) = Some (Malformed offset)
+refusal_in (next.Limit what number ∷ rest) = Some (Limit what number)
+refusal_in (next.ReadFault ∷ rest) = Some ReadFault
+refusal_in (next.OutOfMemory ∷ rest) = Some OutOfMemory
 
--- how far a stream was read where its records are refused: to the answer that ended it, or to the record that is named,
--- which is the last one that came
+-- how far a stream was read where its records are refused: to the answer that ended it
 abbrev pub IsRefusedAt : Progress → Refusal → Type 0
 IsRefusedAt p (Malformed offset) = p.ended ≡ Some (next.Malformed offset)
-IsRefusedAt p (Limit what limit) = p.ended ≡ Some (next.Limit what limit)
+IsRefusedAt p (Limit what number) = p.ended ≡ Some (next.Limit what number)
 IsRefusedAt p ReadFault = p.ended ≡ Some next.ReadFault
-IsRefusedAt p (Unbuilt number) = (p.ended ≡ None) × (p.events ≡ number + 1)
 IsRefusedAt p OutOfMemory = Unit {0}

@@ -1,6 +1,6 @@
 -- How a hart's records are judged one after another. No public clause cites these words.
-use Rattle.std.specs.Prelude.{ℕ, ◌≡◌, Bool, Option, None, Some, List, ◌++◌, map, Ok, Err, IsTrue}
-use Rattle.std.specs.List.{flat_map, list_all}
+use Rattle.std.specs.Prelude.{ℕ, ◌≡◌, Bool, Option, None, Some, List, ◌++◌, map, Ok, Err}
+use Rattle.std.specs.List.{flat_map}
 use Rattle.dt_record.specs.declared.records.Record.{Record}
 use Rattle.dt_record.specs.Keys.{key_of}
 use Rattle.dt_record.specs.Writes.{writes_of}
@@ -8,7 +8,6 @@ use Rattle.dt_versions.specs.History.{History}
 use Rattle.dt_writes.specs.FileRecords.{AreFileRecords}
 use Rattle.dt_rules.specs.declared.misfits.Misfit.{Misfit}
 use Rattle.dt_loads.specs.declared.reading.Passed.{Passed}
-use Rattle.dt_hart.specs.Built.{is_built}
 use Rattle.dt_hart.specs.HartView.{HartView}
 use Rattle.dt_hart.specs.Settings.{Setting, after}
 use Rattle.dt_hart.specs.Standing.{StandsFor}
@@ -50,8 +49,7 @@ pub record AreRunsOf (held : History) (wide : Bool) (harts : ℕ) (records : Lis
   pub outcomes_are : outcomes ≡ map (outcome_of records) runs
   pub notes_are : notes ≡ flat_map (notes_of records) runs
 
--- memory holds all writes of these records, which are of those that are judged so far
+-- memory holds all writes of these records, which are those of a file
 pub record AreJudgeable (held : History) (records : List Record) : Type 0 where
   pub writes : held.writes ≡ writes_of records
   pub file : AreFileRecords records
-  pub built : IsTrue (list_all is_built records)

@@ -1,10 +1,9 @@
-ghost use Rattle.std.specs.Prelude.{◌≡◌, ◌≢◌, ◌≤◌, IfOk, IfErr, IfSome, OnOk, Some, None, Err, length, map, IsTrue};
-ghost use Rattle.std.specs.List.{list_all, range_with_len};
+ghost use Rattle.std.specs.Prelude.{◌≡◌, ◌≢◌, ◌≤◌, IfOk, IfErr, IfSome, OnOk, Some, None, Err, length, map};
+ghost use Rattle.std.specs.List.{range_with_len};
 ghost use Rattle.dt_record.specs.Keys.{records_of};
 ghost use Rattle.dt_record.specs.Streams.{IsFresh, Rose};
 ghost use Rattle.dt_tallies.specs.Counting.{counts_of};
 ghost use Rattle.dt_verdict.specs.declared.answers.Refusal.TheVariants as refusal;
-ghost use Rattle.dt_hart.specs.Built.{is_built};
 ghost use Rattle.dt_pass.specs.Checked.{IsCheckOf, IsChecked, limit_of};
 ghost use Rattle.dt_pass.specs.Running.{AreJudgeable};
 ghost use Rattle.dt_tallies.specs.Naming.{named_notes};
@@ -40,7 +39,6 @@ pub fn pass<P: LentProbes>(alloc: Global, image: &Image, probes: &mut P) -> Resu
 /// Checks the records of a stream that came to its end.
 fn check(alloc: Global, image: &Image, stream: &Listed) -> Result<Checked, AllocError>
     requires streamed { AreStreamed stream.now.harts stream.now.records.items }
-    requires built { IsTrue (list_all is_built stream.now.records.items) }
     ensures { IfOk result (λ checked. IsChecked image.now stream.now.wide stream.now.harts stream.now.records.items checked) }
 {
     let m = moments_of(alloc, image.copy()?, &stream.records)?;

@@ -1,12 +1,8 @@
-ghost use Rattle.std.specs.Prelude.{◌≡◌, ◌≢◌, ◌≤◌, ◌<◌, ◌+◌, ◌++◌, ◌∷◌, [], Some, None, IfOk, IfErr, IfSome, OnOk, Err, length, MatchResult, false, true};
-ghost use Rattle.dt_record.specs.Lawful.{IsLawful};
+ghost use Rattle.std.specs.Prelude.{◌≡◌, ◌≢◌, ◌≤◌, Some, None, IfOk, IfErr, IfSome, OnOk, Err};
 ghost use Rattle.dt_record.specs.Streams.{IsFresh, Rose};
 ghost use Rattle.dt_verdict.specs.declared.answers.Refusal.TheVariants as refusal;
-ghost use Rattle.dt_hart.specs.Built.{is_built};
 ghost use Rattle.dt_pass.specs.Reading.{HasCome, IsRefusedAt, refusal_in};
-ghost use Rattle.dt_pass.specs.Underway.{IsUnbuiltAt};
 
-use dt_hart::is_built;
 use dt_probe_file::LentProbes;
 use dt_record::{Next, Record};
 use dt_verdict::Refusal;
@@ -20,7 +16,7 @@ pub(crate) struct Listed {
     pub records: Vec<Record>,
 }
 
-/// Reads a stream to its end, or to the first record that is not judged yet.
+/// Reads a stream to its end.
 pub(crate) fn read_all<P: LentProbes>(alloc: Global, probes: &mut P) -> Result<Listed, Refusal>
     requires { IsFresh (P.progress probes.old) }
     ensures came { IfOk result (λ l. HasCome (P.left probes.old) (P.progress probes.new) l.harts l.wide l.records.items) }
@@ -42,9 +38,9 @@ pub(crate) fn read_all<P: LentProbes>(alloc: Global, probes: &mut P) -> Result<L
                 stream.harts = harts;
                 stream.wide = wide;
             }
-            Next::Event(event) => match list(&mut stream.records, event) {
+            Next::Event(event) => match stream.records.push(event) {
                 Ok(()) => {}
-                Err(refusal) => return Err(refusal),
+                Err(_) => return Err(Refusal::OutOfMemory),
             },
             Next::End { .. } => return Ok(stream),
             Next::Malformed { offset } => return Err(Refusal::Malformed { offset }),
@@ -52,23 +48,5 @@ pub(crate) fn read_all<P: LentProbes>(alloc: Global, probes: &mut P) -> Result<L
             Next::ReadFault => return Err(Refusal::ReadFault),
             Next::OutOfMemory => return Err(Refusal::OutOfMemory),
         }
-    }
-}
-
-/// Adds a record, where it is judged.
-fn list(records: &mut Vec<Record>, event: Record) -> Result<(), Refusal>
-    requires { IsLawful event }
-    ensures listed { OnOk result (records.new.items ≡ records.old.items ++ event ∷ []) }
-    ensures built { OnOk result (is_built event ≡ true) }
-    ensures unbuilt { IfErr result (λ r. IsUnbuiltAt (length records.old.items) event r) }
-{
-    if !is_built(&event) {
-        return Err(Refusal::Unbuilt {
-            number: records.len() as u64,
-        });
-    }
-    match records.push(event) {
-        Ok(()) => Ok(()),
-        Err(_) => Err(Refusal::OutOfMemory),
     }
 }

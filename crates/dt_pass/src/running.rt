@@ -1,6 +1,5 @@
-ghost use Rattle.std.specs.Prelude.{◌≡◌, ◌≤◌, ◌<◌, ◌++◌, [], IfOk, OnOk, IsTrue};
+ghost use Rattle.std.specs.Prelude.{◌≡◌, ◌≤◌, ◌<◌, ◌++◌, [], IfOk, OnOk};
 ghost use Rattle.dt_record.specs.Lawful.{IsLawful};
-ghost use Rattle.dt_hart.specs.Built.{is_built};
 ghost use Rattle.dt_pass.specs.Checked.{note_of};
 ghost use Rattle.dt_pass.specs.Running.{AreJudgeable, AreRunsOf, IsRunOf, IsStep};
 
@@ -75,7 +74,6 @@ fn step(
     notes: &mut Vec<Noted>,
 ) -> Result<Option<Failure>, AllocError>
     requires lawful { IsLawful event.now }
-    requires built { IsTrue (is_built event.now) }
     requires its { event.now.hart ≡ hart.old.arch.hart }
     requires in_time { hart.old.stamp ≤ event.now.stamp }
     requires room { hart.old.seq < 4194304 }

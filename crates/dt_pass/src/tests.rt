@@ -303,16 +303,7 @@ fn refusal_of(answer: &Result<Checked, Refusal>) -> Option<Refusal> {
 }
 
 #[test]
-fn a_fence_a_cut_file_and_a_failed_read_are_refused(rt: HostRuntime) -> Result<(), Fail> {
-    let fence = commit(3, 0, 8, 0x0330_000f, 0);
-    let records = [
-        commit(1, 0, 0, 0x0000_0297, 0x8000_0000),
-        commit(2, 0, 4, 0x0070_0393, 6),
-        fence,
-    ];
-    let answer = check(rt.alloc(), &STORES, file(rt.alloc(), 1, &records)?, &[])?;
-    let unbuilt = Refusal::Unbuilt { number: 2 };
-    assert_eq!(rt; refusal_of(&answer), Some(unbuilt));
+fn a_cut_file_and_a_failed_read_are_refused(rt: HostRuntime) -> Result<(), Fail> {
     let mut bytes = file(rt.alloc(), 1, &[commit(1, 0, 0, FIVE, 5)])?;
     let answer = check(rt.alloc(), &[FIVE], bytes.clone()?, &[0])?;
     assert_eq!(rt; refusal_of(&answer), Some(Refusal::ReadFault));

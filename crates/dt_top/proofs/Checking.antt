@@ -1,7 +1,6 @@
 -- What the answers of a probe file say of its check.
 use Rattle.std.proofs.Common.{◌≡◌, ◌≢◌, ℕ, ◌+◌, Bool, true, List, [], ◌∷◌, ◌++◌, map, length, Option, Some, None, IfSome, Err, cond, refl, sym, ap, ◌∙◌, subst, arith}
 use Rattle.std.specs.Option.{option_map}
-use Rattle.std.specs.List.{list_all}
 use Rattle.std.specs.String.{string_bytes}
 use Rattle.dt_source.specs.Faults.{Rose}
 use Rattle.dt_record.specs.declared.records.Record.{Record}
@@ -11,12 +10,11 @@ use Rattle.dt_record.specs.declared.streams.Next.TheVariants.{Header, Event, End
 use Rattle.dt_record.specs.Answers.{Reading, AreAnswers, AreAnswersAfter, after_record}
 use Rattle.dt_record.specs.Streams.{Progress}
 use Rattle.dt_probe_file.specs.Told.{answers_of}
-use Rattle.dt_hart.specs.Built.{is_built}
 use Rattle.dt_verdict.specs.declared.answers.Checked.{Checked}
 use Rattle.dt_verdict.specs.declared.answers.Refusal.{Refusal}
 use Rattle.dt_verdict.specs.declared.answers.Refusal.TheVariants as refusal
 use Rattle.dt_pass.specs.Checked.{IsCheckOf}
-use Rattle.dt_pass.specs.Reading.{first_answers, refusal_from, refusal_in}
+use Rattle.dt_pass.specs.Reading.{first_answers, refusal_in}
 use Rattle.dt_report.specs.Report.{report_text}
 use Rattle.dt_top.specs.declared.replies.Reply.{Reply}
 use Rattle.dt_top.specs.declared.replies.Reply.TheVariants.{Usage, TooLong, ReadFaultImage, Refused, Report, OutOfMemory}
@@ -37,12 +35,9 @@ nothing_behind are b harts wide records count more same =
     let opened = subst (λ (answers : List Next). AreAnswers b answers) same (are b) in
     behind_end _ opened.1.rest records count more opened.1.after
 
-not_refused : (number : ℕ) (records : List Record) (count : ℕ) (more : List Next) → list_all is_built records ≡ true → refusal_from number (map (λ r. Event r) records ++ End count ∷ more) ≡ None
-not_refused number [] count more built = refl
-not_refused number (r ∷ rs) count more built =
-    let first : is_built r ≡ true = grind arith in
-    let others : list_all is_built rs ≡ true = grind arith in
-    rw first (not_refused (number + 1) rs count more others)
+not_refused : (records : List Record) (count : ℕ) (more : List Next) → refusal_in (map (λ r. Event r) records ++ End count ∷ more) ≡ None
+not_refused [] count more = refl
+not_refused (r ∷ rs) count more = not_refused rs count more
 
 -- ---- the reply
 
@@ -56,7 +51,7 @@ report_said are image sources (Some b) progress checked v text check verdict wri
     let same = came.answers.1 in
     let ended = nothing_behind are b check.harts check.wide check.records _ more same in
     let none : refusal_in (first_answers check.harts check.wide check.records ++ End (length check.records) ∷ more) ≡ None
-    = not_refused 0 check.records (length check.records) more came.built in (
+    = not_refused check.records (length check.records) more in (
       ap refusal_in same ∙ none,
       record {
         harts = check.harts;

@@ -1,6 +1,7 @@
 -- What a task that reads a probe file of any form comes to.
-use Rattle.std.proofs.Common.{◌≡◌, ◌≢◌, ◌⊎◌, ℕ, List, [], Option, Some, None, IfSome, IsSomeAnd, refl, sym, ap, ◌∙◌, subst, inl, inr}
-use Rattle.std.specs.Option.{option_map, option_map_or}
+use Rattle.std.proofs.Common.{◌≡◌, ◌≢◌, ◌⊎◌, ℕ, List, [], ◌∷◌, Option, Some, None, IfSome, IsSome, IsSomeAnd, refl, sym, ap, ◌∙◌, subst, inl, inr}
+use Rattle.std.specs.Option.{option_map}
+use Rattle.std.proofs.lemmas.Option.{same_Some}
 use Rattle.dt_source.specs.Faults.{Rose}
 use Rattle.dt_source.specs.Known.{Appends}
 use Rattle.dt_record.specs.declared.writes.What.{What}
@@ -8,14 +9,14 @@ use Rattle.dt_record.specs.declared.streams.Next.{Next}
 use Rattle.dt_record.specs.declared.streams.Next.TheVariants.{Header, Event, End, Malformed, Limit, ReadFault, OutOfMemory}
 use Rattle.dt_record.specs.Spelling.{Version}
 use Rattle.dt_probe_file.specs.Told.{answers_of}
-use Rattle.dt_dump.specs.Dump.{AppendsPart, IsCutShort, dump_text, end_of, last_status, memory_line, read_fault_line, stream_status}
+use Rattle.dt_dump.specs.Dump.{AppendsPart, IsCutShort, dump_text, last_status, memory_line, read_fault_line, stream_status}
 use Rattle.dt_convert.specs.Convert.{converted}
-use Rattle.dt_words.specs.declared.commands.Task.{Task}
 use Rattle.dt_verdict.specs.declared.answers.Refusal.{Refusal}
 use Rattle.dt_verdict.specs.declared.answers.Refusal.TheVariants as refusal
 use Rattle.dt_words.specs.declared.commands.Task.TheVariants.{Pass, Dump, Convert}
 use Rattle.dt_words.specs.Table.{Asked}
-use Rattle.dt_top.specs.Answer.{Answer, answer, refusal_of, refusal_status, version_named, AsksFor, AsksForFile, EndsAtLimit, EndsMalformed, IsAnswer, IsRefusedUnbuilt, MeetsLimit, MeetsMalformed, StopsWith, WhereRead, WhereTold}
+use Rattle.dt_pass.specs.Reading.{refusal_in}
+use Rattle.dt_top.specs.Answer.{Answer, answer, refusal_of, refusal_status, version_named, EndsAtLimit, EndsMalformed, IsAnswer, StopsWith, WhereTold}
 use Rattle.dt_top.specs.Running.{Ran}
 use Rattle.dt_top.proofs.Tasks.{not_dump, not_convert, dump_is_not_convert, either, of_bytes, where_dump, where_convert}
 
@@ -34,8 +35,6 @@ pub record Streamed (told : Option (List Next)) (last_answer : Option Next) (tex
 
 -- what the words of such a task mean
 pub record IsFileTask (asked : Asked) (probes : Option (List ℕ)) (text_of : List Next → List ℕ) (cut : List ℕ → Option (List Next) → List ℕ → Type 0) : Type 0 where
-  pub asks : AsksForFile (Some asked)
-  pub no_check : asked.task ≢ Pass
   pub is_answer : (i b : List ℕ) (status : ℕ) (text : List ℕ) → status ≡ stream_status (answers_of b) → text ≡ text_of (answers_of b) → IsAnswer (Some asked) i b (answer status text)
   pub stops : (line text : List ℕ) → cut line (option_map answers_of probes) text → StopsWith line (Some asked) probes text
 
@@ -59,38 +58,46 @@ last_is_not_3 (Limit what number) = λ e. cc
 last_is_not_3 ReadFault = λ e. cc
 last_is_not_3 OutOfMemory = λ e. cc
 
-pub last_is_not_9 : (last : Next) → last_status last ≢ 9
-last_is_not_9 (Header harts wide) = λ e. cc
-last_is_not_9 (Event r) = λ e. cc
-last_is_not_9 (End count) = λ e. cc
-last_is_not_9 (Malformed offset) = λ e. cc
-last_is_not_9 (Limit what number) = λ e. cc
-last_is_not_9 ReadFault = λ e. cc
-last_is_not_9 OutOfMemory = λ e. cc
-
 not_status : (ended : Option Next) (status n : ℕ) → ((last : Next) → last_status last ≢ n) → IsSomeAnd ended (λ last. status ≡ last_status last) → status ≢ n
 not_status None status n differs h e = absurd h
 not_status (Some last) status n differs h e = differs last (sym h ∙ e)
 
-malformed_end : (o : Option Next) → option_map_or last_status o 0 ≡ 4 → (offset : ℕ) × (o ≡ Some (Malformed offset))
-malformed_end None e = cc
-malformed_end (Some (Header harts wide)) e = cc
-malformed_end (Some (Event r)) e = cc
-malformed_end (Some (End count)) e = cc
-malformed_end (Some (Malformed offset)) e = (offset, refl)
-malformed_end (Some (Limit what number)) e = cc
-malformed_end (Some ReadFault) e = cc
-malformed_end (Some OutOfMemory) e = cc
+-- the status of a file's end names why the file was not read to its end
 
-limit_end : (o : Option Next) → option_map_or last_status o 0 ≡ 8 → (what : What) × (number : ℕ) × (o ≡ Some (Limit what number))
-limit_end None e = cc
-limit_end (Some (Header harts wide)) e = cc
-limit_end (Some (Event r)) e = cc
-limit_end (Some (End count)) e = cc
-limit_end (Some (Malformed offset)) e = cc
-limit_end (Some (Limit what number)) e = (what, number, refl)
-limit_end (Some ReadFault) e = cc
-limit_end (Some OutOfMemory) e = cc
+malformed_end : (answers : List Next) → stream_status answers ≡ 4 → (offset : ℕ) × (refusal_in answers ≡ Some (refusal.Malformed offset))
+malformed_end [] e = cc
+malformed_end (Header harts wide ∷ rest) e = malformed_end rest e
+malformed_end (Event r ∷ rest) e = malformed_end rest e
+malformed_end (End count ∷ rest) e = cc
+malformed_end (Malformed offset ∷ rest) e = (offset, refl)
+malformed_end (Limit what number ∷ rest) e = cc
+malformed_end (ReadFault ∷ rest) e = cc
+malformed_end (OutOfMemory ∷ rest) e = cc
+
+limit_end : (answers : List Next) → stream_status answers ≡ 8 → (what : What) × (number : ℕ) × (refusal_in answers ≡ Some (refusal.Limit what number))
+limit_end [] e = cc
+limit_end (Header harts wide ∷ rest) e = limit_end rest e
+limit_end (Event r ∷ rest) e = limit_end rest e
+limit_end (End count ∷ rest) e = cc
+limit_end (Malformed offset ∷ rest) e = cc
+limit_end (Limit what number ∷ rest) e = (what, number, refl)
+limit_end (ReadFault ∷ rest) e = cc
+limit_end (OutOfMemory ∷ rest) e = cc
+
+refused_end : (answers : List Next) (r : Refusal) → refusal_in answers ≡ Some r → stream_status answers ≡ refusal_status r
+refused_end [] r e = cc
+refused_end (Header harts wide ∷ rest) r e = refused_end rest r e
+refused_end (Event q ∷ rest) r e = refused_end rest r e
+refused_end (End count ∷ rest) r e = cc
+refused_end (Malformed offset ∷ rest) r e = ap refusal_status (same_Some (refusal.Malformed offset) r e)
+refused_end (Limit what number ∷ rest) r e = ap refusal_status (same_Some (refusal.Limit what number) r e)
+refused_end (ReadFault ∷ rest) r e = ap refusal_status (same_Some refusal.ReadFault r e)
+refused_end (OutOfMemory ∷ rest) r e = ap refusal_status (same_Some refusal.OutOfMemory r e)
+
+refused_told : (probes : Option (List ℕ)) (P : List Next → Type 0) (status : ℕ) (r : Refusal) → IfSome (option_map answers_of probes) (λ answers. (status ≡ stream_status answers) × P answers)
+    → IsSomeAnd probes (λ b. refusal_of b ≡ Some r) → status ≡ refusal_status r
+refused_told None P status r told found = absurd found
+refused_told (Some b) P status r told found = told.0 ∙ refused_end (answers_of b) r found
 
 -- ---- the run
 
@@ -108,16 +115,16 @@ ran_of_stream asked image probes image_old image_new probes_old probes_new out_o
   too_long = λ three. absurd (not_status ended status 3 last_is_not_3 (s.ended (λ e. cc) (λ e. cc)) three);
   malformed = λ four. (
     refl,
-    of_bytes probes (λ answers. (status ≡ stream_status answers) × Appends before (text_of answers) after) (MeetsMalformed (Some asked)) (s.whole (λ e. cc) (λ e. cc) (λ e. cc))
-        (λ b h. inl (task.asks, malformed_end (end_of (answers_of b)) (sym h.0 ∙ four))),
+    of_bytes probes (λ answers. (status ≡ stream_status answers) × Appends before (text_of answers) after) EndsMalformed (s.whole (λ e. cc) (λ e. cc) (λ e. cc))
+        (λ b h. malformed_end (answers_of b) (sym h.0 ∙ four)),
   );
   limit = λ eight. (
     refl,
-    of_bytes probes (λ answers. (status ≡ stream_status answers) × Appends before (text_of answers) after) (MeetsLimit (Some asked)) (s.whole (λ e. cc) (λ e. cc) (λ e. cc))
-        (λ b h. inl (task.asks, limit_end (end_of (answers_of b)) (sym h.0 ∙ eight))),
+    of_bytes probes (λ answers. (status ≡ stream_status answers) × Appends before (text_of answers) after) EndsAtLimit (s.whole (λ e. cc) (λ e. cc) (λ e. cc))
+        (λ b h. limit_end (answers_of b) (sym h.0 ∙ eight)),
   );
-  unbuilt = λ nine. absurd (not_status ended status 9 last_is_not_9 (s.ended (λ e. cc) (λ e. cc)) nine);
-  refused_comes = λ r asks. absurd (task.no_check asks);
+  refused_comes = λ r asks found three five six seven.
+      refused_told probes (λ answers. Appends before (text_of answers) after) status r (s.whole five six seven) found;
   read_fault = λ five.
       let text = s.read_fault_text five in
       inr (s.read_fault five, text.0, task.stops read_fault_line text.0 text.1, text.2);
@@ -152,8 +159,6 @@ same_answer status text_status text other a b = ap (λ n. answer n text) a ∙ a
 
 pub dump_task : (asked : Asked) (probes : Option (List ℕ)) → asked.task ≡ Dump → IsFileTask asked probes dump_text dump_cut
 dump_task asked probes is = record {
-  asks = inl is;
-  no_check = λ other. not_dump asked.task other is;
   is_answer = λ i b status text a t. record {
     usage = λ none. cc;
     too_long = λ other. absurd (not_dump asked.task other is);
@@ -167,8 +172,6 @@ dump_task asked probes is = record {
 
 pub convert_task : (asked : Asked) (probes : Option (List ℕ)) → asked.task ≡ Convert → IsFileTask asked probes (converted (version_named asked.to)) convert_cut
 convert_task asked probes is = record {
-  asks = inr is;
-  no_check = λ other. not_convert asked.task other is;
   is_answer = λ i b status text a t. record {
     usage = λ none. cc;
     too_long = λ other. absurd (not_convert asked.task other is);
@@ -208,41 +211,14 @@ convert_ran asked image probes image_old image_new probes_old probes_new own_old
 
 -- ---- where the status comes
 
--- a run of a file has the status of the file's end
-status_at : (asked : Option Asked) (image : Option (List ℕ)) (b : List ℕ) (image_old image_new probes_old probes_new out_old out_new : ℕ) (before after : Option (List ℕ)) (status : ℕ)
-    → Ran asked image (Some b) image_old image_new probes_old probes_new out_old out_new before after status → AsksForFile asked
-    → status ≢ 5 → status ≢ 6 → status ≢ 7 → status ≡ stream_status (answers_of b)
-status_at None image b _ _ _ _ _ _ before after status ran asks five six seven = either asks (λ is. absurd is) (λ is. absurd is)
-status_at (Some asked) image b _ _ _ _ _ _ before after status ran asks five six seven =
-    either asks
-    (λ is.
-    let said = subst (λ (t : Task). WhereRead t image (Some b) (λ i b. (text : List ℕ) × Appends before text after × IsAnswer (Some asked) i b (answer status text))) is (ran.whole five six seven) [] in
-    ap (λ (a : Answer). a.status) (said.2.dump is))
-    (λ is.
-    let said = subst (λ (t : Task). WhereRead t image (Some b) (λ i b. (text : List ℕ) × Appends before text after × IsAnswer (Some asked) i b (answer status text))) is (ran.whole five six seven) [] in
-    ap (λ (a : Answer). a.status) (said.2.convert asked.to (is, refl)))
-
 pub malformed_comes : (asked : Option Asked) (image probes : Option (List ℕ)) (image_old image_new probes_old probes_new out_old out_new : ℕ) (before after : Option (List ℕ)) (status : ℕ)
     → Ran asked image probes image_old image_new probes_old probes_new out_old out_new before after status
-    → IsSomeAnd probes (MeetsMalformed asked) → status ≢ 3 → status ≢ 5 → status ≢ 6 → status ≢ 7 → status ≡ 4
-malformed_comes asked image None _ _ _ _ _ _ before after status ran met three five six seven = absurd met
-malformed_comes asked image (Some b) _ _ _ _ _ _ before after status ran met three five six seven =
-    either met
-    (λ m. status_at asked image b _ _ _ _ _ _ before after status ran m.0 five six seven ∙ ap (λ (o : Option Next). option_map_or last_status o 0) m.1.1)
-    (λ m. ran.refused_comes (refusal.Malformed m.1.0) m.0 m.1.1 three five six seven)
+    → IsSome asked → IsSomeAnd probes EndsMalformed → status ≢ 3 → status ≢ 5 → status ≢ 6 → status ≢ 7 → status ≡ 4
+malformed_comes asked image None _ _ _ _ _ _ before after status ran asks met three five six seven = absurd met
+malformed_comes asked image (Some b) _ _ _ _ _ _ before after status ran asks met three five six seven = ran.refused_comes (refusal.Malformed met.0) asks met.1 three five six seven
 
 pub limit_comes : (asked : Option Asked) (image probes : Option (List ℕ)) (image_old image_new probes_old probes_new out_old out_new : ℕ) (before after : Option (List ℕ)) (status : ℕ)
     → Ran asked image probes image_old image_new probes_old probes_new out_old out_new before after status
-    → IsSomeAnd probes (MeetsLimit asked) → status ≢ 3 → status ≢ 5 → status ≢ 6 → status ≢ 7 → status ≡ 8
-limit_comes asked image None _ _ _ _ _ _ before after status ran met three five six seven = absurd met
-limit_comes asked image (Some b) _ _ _ _ _ _ before after status ran met three five six seven =
-    either met
-    (λ m. status_at asked image b _ _ _ _ _ _ before after status ran m.0 five six seven ∙ ap (λ (o : Option Next). option_map_or last_status o 0) m.1.2)
-    (λ m. ran.refused_comes (refusal.Limit m.1.0 m.1.1) m.0 m.1.2 three five six seven)
-
-pub unbuilt_comes : (asked : Option Asked) (image probes : Option (List ℕ)) (image_old image_new probes_old probes_new out_old out_new : ℕ) (before after : Option (List ℕ)) (status : ℕ)
-    → Ran asked image probes image_old image_new probes_old probes_new out_old out_new before after status
-    → AsksFor Pass asked → IsSomeAnd probes IsRefusedUnbuilt → status ≢ 3 → status ≢ 5 → status ≢ 6 → status ≢ 7 → status ≡ 9
-unbuilt_comes asked image None _ _ _ _ _ _ before after status ran asks met three five six seven = absurd met
-unbuilt_comes asked image (Some b) _ _ _ _ _ _ before after status ran asks met three five six seven =
-    ran.refused_comes (refusal.Unbuilt met.0) asks met.1 three five six seven
+    → IsSome asked → IsSomeAnd probes EndsAtLimit → status ≢ 3 → status ≢ 5 → status ≢ 6 → status ≢ 7 → status ≡ 8
+limit_comes asked image None _ _ _ _ _ _ before after status ran asks met three five six seven = absurd met
+limit_comes asked image (Some b) _ _ _ _ _ _ before after status ran asks met three five six seven = ran.refused_comes (refusal.Limit met.0 met.1) asks met.2 three five six seven

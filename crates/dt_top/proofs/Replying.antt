@@ -1,5 +1,5 @@
 -- What a reply to words comes to.
-use Rattle.std.proofs.Common.{◌≡◌, ◌≢◌, ◌≤◌, ◌<◌, ◌⊎◌, ℕ, Bool, List, [], length, Option, Some, None, Result, Ok, Err, IfSome, IsSomeAnd, refl, sym, ap, ◌∙◌, subst, inl, inr, arith}
+use Rattle.std.proofs.Common.{◌≡◌, ◌≢◌, ◌≤◌, ◌<◌, ◌⊎◌, ℕ, Bool, List, [], length, Option, Some, None, Result, Ok, Err, IfSome, IsSome, IsSomeAnd, refl, sym, ap, ◌∙◌, subst, inl, inr, arith}
 use Rattle.std.specs.String.{string_bytes}
 use Rattle.std.specs.Prelude.{nat_le}
 use Rattle.std.proofs.lemmas.Bool.{cases_eq}
@@ -11,14 +11,14 @@ use Rattle.dt_image.specs.declared.images.ImageRefusal.{ImageRefusal}
 use Rattle.dt_image.specs.declared.images.ImageRefusal.TheVariants as image_refusal
 use Rattle.dt_image.specs.Loading.{loaded}
 use Rattle.dt_verdict.specs.declared.answers.Refusal.{Refusal}
-use Rattle.dt_verdict.specs.declared.answers.Refusal.TheVariants.{Malformed, Limit, ReadFault, Unbuilt, OutOfMemory}
+use Rattle.dt_verdict.specs.declared.answers.Refusal.TheVariants.{Malformed, Limit, ReadFault, OutOfMemory}
 use Rattle.dt_verdict.specs.declared.verdicts.Verdict.{Verdict}
 use Rattle.dt_verdict.specs.declared.verdicts.Verdict.TheVariants.{Pass, Fail}
 use Rattle.dt_words.specs.declared.commands.Task.TheVariants as tasks
 use Rattle.dt_words.specs.Table.{Asked}
 use Rattle.dt_top.specs.declared.replies.Reply.{Reply}
 use Rattle.dt_top.specs.declared.replies.Reply.TheVariants as reply
-use Rattle.dt_top.specs.Answer.{Answer, answer, verdict_status, usage_answer, too_long_answer, image_fault_answer, memory_answer, refusal_answer, refusal_line, refusal_of, refusal_status, AsksFor, IsAnswer, IsReport, IsTooLong, MayWrite, MeetsLimit, MeetsMalformed, WhereTold}
+use Rattle.dt_top.specs.Answer.{Answer, answer, verdict_status, usage_answer, too_long_answer, image_fault_answer, memory_answer, refusal_answer, refusal_line, refusal_of, refusal_status, AsksFor, IsAnswer, IsReport, IsTooLong, MayWrite, WhereTold}
 use Rattle.dt_top.specs.Replies.{answer_by, CameOf, IsPassReply}
 use Rattle.dt_top.specs.Running.{IsPut, Ran}
 use Rattle.dt_top.proofs.Tasks.{both_told, either, not_dump, not_convert, some_map, where_map, where_pass}
@@ -79,43 +79,31 @@ refusal_is_great : (r : Refusal) → 4 ≤ refusal_status r
 refusal_is_great (Malformed offset) = omega arith
 refusal_is_great (Limit what number) = omega arith
 refusal_is_great ReadFault = omega arith
-refusal_is_great (Unbuilt number) = omega arith
 refusal_is_great OutOfMemory = omega arith
 
 at_4 : (r : Refusal) → refusal_status r ≡ 4 → (offset : ℕ) × (r ≡ Malformed offset)
 at_4 (Malformed offset) e = (offset, refl)
 at_4 (Limit what number) e = cc
 at_4 ReadFault e = cc
-at_4 (Unbuilt number) e = cc
 at_4 OutOfMemory e = cc
 
 at_5 : (r : Refusal) → refusal_status r ≡ 5 → r ≡ ReadFault
 at_5 (Malformed offset) e = cc
 at_5 (Limit what number) e = cc
 at_5 ReadFault e = refl
-at_5 (Unbuilt number) e = cc
 at_5 OutOfMemory e = cc
 
 at_7 : (r : Refusal) → refusal_status r ≡ 7 → r ≡ OutOfMemory
 at_7 (Malformed offset) e = cc
 at_7 (Limit what number) e = cc
 at_7 ReadFault e = cc
-at_7 (Unbuilt number) e = cc
 at_7 OutOfMemory e = refl
 
 at_8 : (r : Refusal) → refusal_status r ≡ 8 → (what : What) × (number : ℕ) × (r ≡ Limit what number)
 at_8 (Malformed offset) e = cc
 at_8 (Limit what number) e = (what, number, refl)
 at_8 ReadFault e = cc
-at_8 (Unbuilt number) e = cc
 at_8 OutOfMemory e = cc
-
-at_9 : (r : Refusal) → refusal_status r ≡ 9 → (number : ℕ) × (r ≡ Unbuilt number)
-at_9 (Malformed offset) e = cc
-at_9 (Limit what number) e = cc
-at_9 ReadFault e = cc
-at_9 (Unbuilt number) e = (number, refl)
-at_9 OutOfMemory e = cc
 
 -- ---- the run
 
@@ -159,10 +147,6 @@ ran_of_reply asked image probes image_old image_new probes_old probes_new out_ol
       (t.0, t.1, subst (λ (text : List ℕ). Appends before text after) t.2 w.1);
   malformed = λ four. let w = put.whole (λ e. cc) in came.malformed (sym w.0 ∙ four);
   limit = λ eight. let w = put.whole (λ e. cc) in came.limit (sym w.0 ∙ eight);
-  unbuilt = λ nine.
-      let w = put.whole (λ e. cc) in
-      let u = came.unbuilt (sym w.0 ∙ nine) in
-      (u.0, u.1, u.2, subst (λ (text : List ℕ). Appends before text after) u.3 w.1);
   refused_comes = λ r asks found three five six seven.
       let w = put.whole six in
       w.0 ∙ came.refused_comes r asks found (λ e. three (w.0 ∙ e)) (λ e. five (w.0 ∙ e)) (λ e. seven (w.0 ∙ e));
@@ -188,8 +172,7 @@ of_usage asked image probes image_old image_new probes_old probes_new none = rec
   too_long = λ e. cc;
   malformed = λ e. cc;
   limit = λ e. cc;
-  unbuilt = λ e. cc;
-  refused_comes = λ r asks. absurd (subst (λ (q : Option Asked). AsksFor tasks.Pass q) none asks);
+  refused_comes = λ r asks. absurd (subst (λ (q : Option Asked). IsSome q) none asks);
   read_fault = λ e. cc;
   memory = λ e. cc;
 }
@@ -202,7 +185,6 @@ of_memory asked image probes image_old image_new probes_old probes_new = record 
   too_long = λ e. cc;
   malformed = λ e. cc;
   limit = λ e. cc;
-  unbuilt = λ e. cc;
   refused_comes = λ r asks found three five seven. absurd (seven refl);
   read_fault = λ e. cc;
   memory = λ _. refl;
@@ -217,7 +199,6 @@ of_image_fault asked image probes image_old image_new probes_old probes_new is r
   too_long = λ e. cc;
   malformed = λ e. cc;
   limit = λ e. cc;
-  unbuilt = λ e. cc;
   refused_comes = λ r asks found three five. absurd (five refl);
   read_fault = λ _. inl (rose, is, refl);
   memory = λ e. cc;
@@ -245,7 +226,6 @@ of_too_long asked image probes image_old image_new probes_old probes_new is told
   too_long = λ _. (is, some_map image _ _ told (λ i e. long i e), refl);
   malformed = λ e. cc;
   limit = λ e. cc;
-  unbuilt = λ e. cc;
   refused_comes = λ r asks found three. absurd (three refl);
   read_fault = λ e. cc;
   memory = λ e. cc;
@@ -282,13 +262,10 @@ of_refusal asked i image probes image_old image_new probes_old probes_new r line
   too_long = λ three. absurd (omega (arith, refusal_is_great r, three));
   malformed = λ four.
       let m = at_4 r four in
-      (refl, some_map probes _ _ (told (λ e. cc) (λ e. cc)) (λ b found. inr (is, (m.0, found ∙ ap (λ (x : Refusal). Some x) m.1))));
+      (refl, some_map probes _ _ (told (λ e. cc) (λ e. cc)) (λ b found. (m.0, found ∙ ap (λ (x : Refusal). Some x) m.1)));
   limit = λ eight.
       let m = at_8 r eight in
-      (refl, some_map probes _ _ (told (λ e. cc) (λ e. cc)) (λ b found. inr (is, (m.0, m.1, found ∙ ap (λ (x : Refusal). Some x) m.2))));
-  unbuilt = λ nine.
-      let m = at_9 r nine in
-      (is, m.0, some_map probes _ _ (told (λ e. cc) (λ e. cc)) (λ b found. found ∙ ap (λ (x : Refusal). Some x) m.1), written ∙ ap refusal_line m.1);
+      (refl, some_map probes _ _ (told (λ e. cc) (λ e. cc)) (λ b found. (m.0, m.1, found ∙ ap (λ (x : Refusal). Some x) m.2)));
   refused_comes = λ s asks found three five seven.
       ap refusal_status (one_refusal probes r s (told (λ e. five (ap refusal_status e)) (λ e. seven (ap refusal_status e))) found);
   read_fault = λ five. let e = at_5 r five in inr (fault e, written ∙ ap refusal_line e);
@@ -309,7 +286,6 @@ of_report asked i image probes image_old image_new probes_old probes_new v text 
   too_long = λ e. absurd (omega (arith, verdict_is_small v, e));
   malformed = λ e. absurd (omega (arith, verdict_is_small v, e));
   limit = λ e. absurd (omega (arith, verdict_is_small v, e));
-  unbuilt = λ e. absurd (omega (arith, verdict_is_small v, e));
   refused_comes = λ s asks found. absurd (no_refusal probes _ s told found);
   read_fault = λ e. absurd (omega (arith, verdict_is_small v, e));
   memory = λ e. absurd (omega (arith, verdict_is_small v, e));

@@ -1,15 +1,14 @@
 use Rattle.std.specs.Prelude.{ℕ, ◌≡◌, ◌≤◌, ◌<◌, ◌==◌, ◌⊎◌, Bool, if◌then◌else◌, List, [], ◌∷◌, ◌++◌, length, Option, Some, None, option_map, IfSome, IsSomeAnd, codes}
-use Rattle.std.specs.Fmt.{decimal}
 use Rattle.dt_record.specs.declared.records.Record.{Record}
 use Rattle.dt_record.specs.declared.writes.What.{What}
 use Rattle.dt_record.specs.declared.streams.Next.TheVariants as next
 use Rattle.dt_record.specs.Spelling.{Version, One, Two}
 use Rattle.dt_probe_file.specs.Told.{answers_of}
-use Rattle.dt_dump.specs.Dump.{IsCutShort, dump_text, end_of, last_line, memory_line, read_fault_line, stream_status}
+use Rattle.dt_dump.specs.Dump.{IsCutShort, dump_text, last_line, memory_line, read_fault_line, stream_status}
 use Rattle.dt_convert.specs.Convert.{converted}
 use Rattle.dt_verdict.specs.declared.answers.Checked.{Checked}
 use Rattle.dt_verdict.specs.declared.answers.Refusal.{Refusal}
-use Rattle.dt_verdict.specs.declared.answers.Refusal.TheVariants.{Malformed, Limit, ReadFault, Unbuilt, OutOfMemory}
+use Rattle.dt_verdict.specs.declared.answers.Refusal.TheVariants.{Malformed, Limit, ReadFault, OutOfMemory}
 use Rattle.dt_verdict.specs.declared.verdicts.Verdict.{Verdict}
 use Rattle.dt_verdict.specs.declared.verdicts.Verdict.TheVariants as verdicts
 use Rattle.dt_pass.specs.Checked.{IsChecked}
@@ -52,8 +51,7 @@ IsTooLong image = 16777216 < length image
 abbrev pub too_long_answer : Answer
 too_long_answer = answer 3 (codes "IMAGE TOO LONG\n")
 
--- why the records of a file are not judged, where they are not: the first of a fault of its form, of a limit, and of a
--- record that is not judged so far
+-- why a file is not read to its end, where it is not: the answer that ended its answers, a fault of its form or a limit
 abbrev pub refusal_of : List ℕ → Option Refusal
 refusal_of probes = refusal_in (answers_of probes)
 
@@ -61,15 +59,13 @@ abbrev pub refusal_status : Refusal → ℕ
 refusal_status (Malformed offset) = 4
 refusal_status (Limit what number) = 8
 refusal_status ReadFault = 5
-refusal_status (Unbuilt number) = 9
 refusal_status OutOfMemory = 7
 
--- the line of a refusal; where `dump` has one too, it is the same
+-- the line of a refusal, which is that of `dump` too
 abbrev pub refusal_line : Refusal → List ℕ
 refusal_line (Malformed offset) = last_line (next.Malformed offset)
 refusal_line (Limit what number) = last_line (next.Limit what number)
 refusal_line ReadFault = read_fault_line
-refusal_line (Unbuilt number) = codes "UNBUILT record=" ++ decimal number ++ codes "\n"
 refusal_line OutOfMemory = memory_line
 
 abbrev pub refusal_answer : Refusal → Answer
@@ -112,10 +108,6 @@ AsksToCheck sources asked = IsSomeAnd asked (λ q. (q.task ≡ Pass) × (q.sourc
 abbrev pub AsksToConvert : ℕ → Option Asked → Type 0
 AsksToConvert to asked = IsSomeAnd asked (λ q. (q.task ≡ Convert) × (q.to ≡ to))
 
--- the tasks that read a probe file of any form, and no image
-abbrev pub AsksForFile : Option Asked → Type 0
-AsksForFile asked = AsksFor Dump asked ⊎ AsksFor Convert asked
-
 -- ---- the answer
 
 -- The program's answer to what its words ask for, the bytes of an image and those of a probe file,
@@ -144,32 +136,11 @@ WhereTold (Some asked) image probes P = WhereRead asked.task image probes P
 
 -- a fault of a file's form comes before its end and before any limit
 abbrev pub EndsMalformed : List ℕ → Type 0
-EndsMalformed probes = (offset : ℕ) × (end_of (answers_of probes) ≡ Some (next.Malformed offset))
+EndsMalformed probes = (offset : ℕ) × (refusal_of probes ≡ Some (Malformed offset))
 
 -- a limit comes before its end and before any fault of its form
 abbrev pub EndsAtLimit : List ℕ → Type 0
-EndsAtLimit probes = (what : What) × (number : ℕ) × (end_of (answers_of probes) ≡ Some (next.Limit what number))
-
--- a fault of a file's form is why its records are not judged
-abbrev pub IsRefusedMalformed : List ℕ → Type 0
-IsRefusedMalformed probes = (offset : ℕ) × (refusal_of probes ≡ Some (Malformed offset))
-
--- a limit is why
-abbrev pub IsRefusedAtLimit : List ℕ → Type 0
-IsRefusedAtLimit probes = (what : What) × (number : ℕ) × (refusal_of probes ≡ Some (Limit what number))
-
--- a record that is not judged so far is why
-abbrev pub IsRefusedUnbuilt : List ℕ → Type 0
-IsRefusedUnbuilt probes = (number : ℕ) × (refusal_of probes ≡ Some (Unbuilt number))
-
--- What words ask for meets a fault of a file's form: `dump` and `convert` behind any record, `pass` only before the first
--- record that is not judged so far.
-abbrev pub MeetsMalformed : Option Asked → List ℕ → Type 0
-MeetsMalformed asked probes = (AsksForFile asked × EndsMalformed probes) ⊎ (AsksFor Pass asked × IsRefusedMalformed probes)
-
--- the same of a limit
-abbrev pub MeetsLimit : Option Asked → List ℕ → Type 0
-MeetsLimit asked probes = (AsksForFile asked × EndsAtLimit probes) ⊎ (AsksFor Pass asked × IsRefusedAtLimit probes)
+EndsAtLimit probes = (what : What) × (number : ℕ) × (refusal_of probes ≡ Some (Limit what number))
 
 -- ---- what may come otherwise
 

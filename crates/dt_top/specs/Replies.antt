@@ -11,7 +11,7 @@ use Rattle.dt_words.specs.declared.commands.Task.TheVariants.{Pass}
 use Rattle.dt_words.specs.Table.{Asked}
 use Rattle.dt_top.specs.declared.replies.Reply.{Reply}
 use Rattle.dt_top.specs.declared.replies.Reply.TheVariants.{Usage, TooLong, ReadFaultImage, Refused, Report, OutOfMemory}
-use Rattle.dt_top.specs.Answer.{Answer, answer, verdict_status, usage_answer, image_fault_answer, memory_answer, too_long_answer, refusal_of, refusal_status, refusal_line, AsksFor, IsAnswer, IsReport, IsTooLong, WhereTold, MeetsMalformed, MeetsLimit}
+use Rattle.dt_top.specs.Answer.{Answer, answer, verdict_status, usage_answer, image_fault_answer, memory_answer, too_long_answer, refusal_of, refusal_status, refusal_line, AsksFor, IsAnswer, IsReport, IsTooLong, WhereTold, EndsMalformed, EndsAtLimit}
 
 -- the status and the text of a reply
 abbrev pub answer_by : Reply → Answer
@@ -51,11 +51,9 @@ pub record CameOf (asked : Option Asked) (image probes : Option (List ℕ)) (ima
   pub usage : a.status ≡ 2 → (asked ≡ None) × (a.text ≡ usage_answer.text)
   pub usage_comes : asked ≡ None → a.status ≢ 7 → a.status ≡ 2
   pub too_long : a.status ≡ 3 → AsksFor Pass asked × IfSome image IsTooLong × (a.text ≡ too_long_answer.text)
-  pub malformed : a.status ≡ 4 → IsSome asked × IfSome probes (MeetsMalformed asked)
-  pub limit : a.status ≡ 8 → IsSome asked × IfSome probes (MeetsLimit asked)
-  pub unbuilt : a.status ≡ 9 → AsksFor Pass asked
-      × (number : ℕ) × IfSome probes (λ b. refusal_of b ≡ Some (refusal.Unbuilt number)) × (a.text ≡ refusal_line (refusal.Unbuilt number))
-  pub refused_comes : (r : Refusal) → AsksFor Pass asked → IsSomeAnd probes (λ b. refusal_of b ≡ Some r)
+  pub malformed : a.status ≡ 4 → IsSome asked × IfSome probes EndsMalformed
+  pub limit : a.status ≡ 8 → IsSome asked × IfSome probes EndsAtLimit
+  pub refused_comes : (r : Refusal) → IsSome asked → IsSomeAnd probes (λ b. refusal_of b ≡ Some r)
       → a.status ≢ 3 → a.status ≢ 5 → a.status ≢ 7 → a.status ≡ refusal_status r
   pub read_fault : a.status ≡ 5
       → (Rose image_old image_new × AsksFor Pass asked × (a.text ≡ image_fault_answer.text)) ⊎ (Rose probes_old probes_new × (a.text ≡ read_fault_line))

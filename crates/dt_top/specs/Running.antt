@@ -4,10 +4,9 @@ use Rattle.dt_source.specs.Faults.{Rose}
 use Rattle.dt_source.specs.Known.{Appends}
 use Rattle.dt_dump.specs.Dump.{AppendsPart, memory_line, read_fault_line}
 use Rattle.dt_verdict.specs.declared.answers.Refusal.{Refusal}
-use Rattle.dt_verdict.specs.declared.answers.Refusal.TheVariants.{Unbuilt}
 use Rattle.dt_words.specs.declared.commands.Task.TheVariants.{Pass}
 use Rattle.dt_words.specs.Table.{Asked}
-use Rattle.dt_top.specs.Answer.{Answer, answer, usage_answer, too_long_answer, image_fault_answer, refusal_of, refusal_status, refusal_line, AsksFor, IsAnswer, IsTooLong, WhereTold, MeetsMalformed, MeetsLimit, StopsWith, MayWrite}
+use Rattle.dt_top.specs.Answer.{Answer, answer, usage_answer, too_long_answer, image_fault_answer, refusal_of, refusal_status, AsksFor, IsAnswer, IsTooLong, WhereTold, EndsMalformed, EndsAtLimit, StopsWith, MayWrite}
 
 -- what was written of an answer, and the exit status; 6 where a write failed
 pub record IsPut (a : Answer) (out_old out_new : ℕ) (before after : Option (List ℕ)) (status : ℕ) : Type 0 where
@@ -21,11 +20,9 @@ pub record Ran (asked : Option Asked) (image probes : Option (List ℕ)) (image_
   pub usage : status ≡ 2 → (asked ≡ None) × Appends before usage_answer.text after
   pub usage_comes : asked ≡ None → status ≢ 6 → status ≢ 7 → status ≡ 2
   pub too_long : status ≡ 3 → AsksFor Pass asked × IfSome image IsTooLong × Appends before too_long_answer.text after
-  pub malformed : status ≡ 4 → IsSome asked × IfSome probes (MeetsMalformed asked)
-  pub limit : status ≡ 8 → IsSome asked × IfSome probes (MeetsLimit asked)
-  pub unbuilt : status ≡ 9 → AsksFor Pass asked
-      × (number : ℕ) × IfSome probes (λ b. refusal_of b ≡ Some (Unbuilt number)) × Appends before (refusal_line (Unbuilt number)) after
-  pub refused_comes : (r : Refusal) → AsksFor Pass asked → IsSomeAnd probes (λ b. refusal_of b ≡ Some r)
+  pub malformed : status ≡ 4 → IsSome asked × IfSome probes EndsMalformed
+  pub limit : status ≡ 8 → IsSome asked × IfSome probes EndsAtLimit
+  pub refused_comes : (r : Refusal) → IsSome asked → IsSomeAnd probes (λ b. refusal_of b ≡ Some r)
       → status ≢ 3 → status ≢ 5 → status ≢ 6 → status ≢ 7 → status ≡ refusal_status r
   pub read_fault : status ≡ 5
       → (Rose image_old image_new × AsksFor Pass asked × Appends before image_fault_answer.text after)

@@ -1,6 +1,8 @@
-//! Whole files by `pass`: two harts, and input that is not judged. `checks/worked-rows` tries more of them.
+//! Whole files by `pass`: two harts, and input that is refused. `checks/worked-rows` tries more of them.
 use crate::run_plain;
-use crate::tests::{ADDI, PASS, START, commit, expect_check, file_of, image_of, record, retire};
+use crate::tests::{
+    ADDI, CALM, Outside, PASS, START, commit, expect_check, file_of, image_of, record, retire, run,
+};
 use dt_record::{Body, Record};
 use dt_source::{CalmSource, Failed, MemSink, Source};
 use std::alloc::{AllocError, Global};
@@ -90,15 +92,29 @@ fn a_load_sees_the_store_of_another_hart(rt: HostRuntime) -> Result<(), Fail> {
 
 #[test]
 fn the_first_refusal_of_a_file_decides(rt: HostRuntime) -> Result<(), Fail> {
-    // addi x1,x0,5 and fence rw,rw
-    let image = image_of(rt.alloc(), &[ADDI, 0x0330_000f])?;
-    let records = [commit(1, 0, 0, ADDI, 6), commit(2, 0, 4, 0x0330_000f, 0)];
+    // The first value is wrong, and the second record is of a hart that the file does not have.
+    let image = image_of(rt.alloc(), &[ADDI; 4])?;
+    let records = [
+        commit(1, 0, 0, ADDI, 6),
+        commit(2, 1, 4, ADDI, 5),
+        commit(3, 0, 8, ADDI, 5),
+        commit(4, 0, 12, ADDI, 5),
+    ];
     let file = file_of(rt.alloc(), 1, &records)?;
-    expect_check(&rt, PASS, &image, &file, 9, "UNBUILT record=1\n")?;
-    let cut = &file[..file.len().min(77)];
-    expect_check(&rt, PASS, &image, cut, 9, "UNBUILT record=1\n")?;
-    let cut = &file[..file.len().min(75)];
-    expect_check(&rt, PASS, &image, cut, 4, "MALFORMED offset=46\n")
+    for (call, status, text) in [
+        (1, 5, "READ FAULT probes\n"),
+        (6, 4, "MALFORMED offset=46\n"),
+    ] {
+        let outside = Outside {
+            piece: 20,
+            probes_fail: call,
+            ..CALM
+        };
+        let (found, written) = run(rt.alloc(), PASS, &image, &file, outside)?;
+        assert_eq!(rt; written.as_slice(), text.as_bytes(), "call {call}");
+        assert_eq!(rt; found, status, "call {call}");
+    }
+    Ok(())
 }
 
 /// So many bytes that are zero.

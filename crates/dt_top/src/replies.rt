@@ -48,7 +48,6 @@ fn refusal_status(refusal: &Refusal) -> u8
         Refusal::ReadFault => 5,
         Refusal::OutOfMemory => 7,
         Refusal::Limit { .. } => 8,
-        Refusal::Unbuilt { .. } => 9,
     }
 }
 
@@ -63,7 +62,6 @@ fn refusal_line(alloc: Global, refusal: &Refusal) -> Result<String, AllocError>
             What::Writes => format!(in alloc; "LIMIT writes={number}\n"),
         },
         Refusal::ReadFault => String::from_str(alloc, "READ FAULT probes\n"),
-        Refusal::Unbuilt { number } => format!(in alloc; "UNBUILT record={number}\n"),
         Refusal::OutOfMemory => String::from_str(alloc, "OUT OF MEMORY\n"),
     }
 }

@@ -3,10 +3,9 @@ ghost use Rattle.std.specs.String.{string_bytes};
 ghost use Rattle.dt_source.specs.Faults.{Rose};
 ghost use Rattle.dt_source.specs.Known.{Appends};
 ghost use Rattle.dt_dump.specs.Dump.{AppendsPart, memory_line, read_fault_line};
-ghost use Rattle.dt_verdict.specs.declared.answers.Refusal.TheVariants.{Unbuilt};
 ghost use Rattle.dt_words.specs.declared.commands.Task.TheVariants.{Pass};
 ghost use Rattle.dt_words.specs.Table.{asked_of};
-ghost use Rattle.dt_top.specs.Answer.{AsksFor, IsAnswer, IsRefusedUnbuilt, IsTooLong, MayWrite, MeetsLimit, MeetsMalformed, StopsWith, WhereTold, answer, image_fault_answer, refusal_line, refusal_of, too_long_answer, usage_answer};
+ghost use Rattle.dt_top.specs.Answer.{AsksFor, EndsAtLimit, EndsMalformed, IsAnswer, IsTooLong, MayWrite, StopsWith, WhereTold, answer, image_fault_answer, too_long_answer, usage_answer};
 ghost use Rattle.dt_top.specs.Running.{Ran};
 
 use crate::replies::Reply;
@@ -19,7 +18,7 @@ use std::alloc::Global;
 ///
 /// 0 the check passed, or the file was written; 1 the check failed; 2 the words are not in the table;
 /// 3 the image is too long; 4 the probe file is malformed; 5 a read failed; 6 a write failed; 7 there
-/// was no memory; 8 the probe file has too many records or writes; 9 a record is not judged yet.
+/// was no memory; 8 the probe file has too many records or writes.
 /// A check that is refused has the first of these: that of the words, of the image, and of the probe
 /// file where it comes first.
 pub fn run_plain<I: Source, P: Source, O: Sink>(
@@ -52,19 +51,13 @@ pub fn run_plain<I: Source, P: Source, O: Sink>(
         × IfSome (I.left image.old) IsTooLong
         × Appends (O.written out.old) too_long_answer.text (O.written out.new) }
     ensures malformed { result ≡ 4 → IsSome (asked_of (map string_bytes words.now))
-        × IfSome (P.left probes.old) (MeetsMalformed (asked_of (map string_bytes words.now))) }
-    ensures malformed_comes { IsSomeAnd (P.left probes.old) (MeetsMalformed (asked_of (map string_bytes words.now)))
+        × IfSome (P.left probes.old) EndsMalformed }
+    ensures malformed_comes { IsSome (asked_of (map string_bytes words.now)) → IsSomeAnd (P.left probes.old) EndsMalformed
         → result ≢ 3 → result ≢ 5 → result ≢ 6 → result ≢ 7 → result ≡ 4 }
     ensures limit { result ≡ 8 → IsSome (asked_of (map string_bytes words.now))
-        × IfSome (P.left probes.old) (MeetsLimit (asked_of (map string_bytes words.now))) }
-    ensures limit_comes { IsSomeAnd (P.left probes.old) (MeetsLimit (asked_of (map string_bytes words.now)))
+        × IfSome (P.left probes.old) EndsAtLimit }
+    ensures limit_comes { IsSome (asked_of (map string_bytes words.now)) → IsSomeAnd (P.left probes.old) EndsAtLimit
         → result ≢ 3 → result ≢ 5 → result ≢ 6 → result ≢ 7 → result ≡ 8 }
-    ensures unbuilt { result ≡ 9 → AsksFor Pass (asked_of (map string_bytes words.now))
-        × (number : ℕ) × IfSome (P.left probes.old) (λ b. refusal_of b ≡ Some (Unbuilt number))
-        × Appends (O.written out.old) (refusal_line (Unbuilt number)) (O.written out.new) }
-    ensures unbuilt_comes { AsksFor Pass (asked_of (map string_bytes words.now))
-        → IsSomeAnd (P.left probes.old) IsRefusedUnbuilt
-        → result ≢ 3 → result ≢ 5 → result ≢ 6 → result ≢ 7 → result ≡ 9 }
     ensures read_fault { result ≡ 5
         → (Rose (I.faults image.old) (I.faults image.new) × AsksFor Pass (asked_of (map string_bytes words.now))
         × Appends (O.written out.old) image_fault_answer.text (O.written out.new))

@@ -12,8 +12,7 @@ pub struct Checked {
     pub tallies: Tallies,
 }
 
-/// Why a probe file has no verdict: the event in which its stream of records ended, or want of
-/// memory.
+/// Why a probe file has no verdict: the answer that ended its stream of records, or want of memory.
 #[derive(Clone, Copy, Debug, PartialEq, Eq)]
 pub enum Refusal {
     /// The file's bytes break the grammar from this place on.
@@ -22,9 +21,6 @@ pub enum Refusal {
     Limit { what: What, number: u64 },
     /// A read of the file failed.
     ReadFault,
-    /// The record with this number in the file, from 0, is the first whose kind or instruction
-    /// this checker does not judge yet.
-    Unbuilt { number: u64 },
     OutOfMemory,
 }
 

@@ -1,10 +1,7 @@
 use Rattle.std.proofs.Common.{List, refl, sym, subst, arith, ◌∙◌}
 use Rattle.dt_record.specs.declared.records.Record.{Record}
-use Rattle.dt_pass.proofs.Underway.{IsUnderway, accepted, after_record, at_end, lawful_next, refused, stands_behind, unbuilt}
+use Rattle.dt_pass.proofs.Underway.{IsUnderway, accepted, after_record, at_end, refused}
 use Rattle.dt_pass.proofs.reading.read_all.Goals as goal
-
-pub list-requires : goal.list-requires
-list-requires g c = (lawful_next _ _ c.in-Event.event c.in-Event.ensures.step).1.lawful
 
 pub loop-harts-preserved : goal.loop-harts-preserved
 loop-harts-preserved g c =
@@ -13,19 +10,11 @@ loop-harts-preserved g c =
     record {
       underway =
           subst (λ (rs : List Record). IsUnderway (left c.args.probes.now) (left c.answer.new.self) c.loop-harts.stream.harts c.loop-harts.stream.wide rs new)
-          (sym c.in-Ok.ensures.listed)
-          (after_record _ _ _ _ _ _ _ _ c.in-Event.event c.loop-harts.invariant.underway c.in-Event.ensures.told c.in-Event.ensures.step c.in-Ok.ensures.built);
+          (sym c.in-Ok.ensures.items)
+          (after_record _ _ _ _ _ _ _ _ c.in-Event.event c.loop-harts.invariant.underway c.in-Event.ensures.told c.in-Event.ensures.step);
       counted = omega (arith, c.loop-harts.invariant.counted, c.in-Event.ensures.rising);
       same_lent = c.in-Event.ensures.same_lent ∙ c.loop-harts.invariant.same_lent;
     }
-
-pub returns-in-Err-clause-refused : goal.returns-in-Err-clause-refused
-returns-in-Err-clause-refused g c =
-    unbuilt _ _ _ _ _ _ _ c.in-Event.event c.in-Err.refusal c.loop-harts.invariant.underway c.in-Event.ensures.told c.in-Err.ensures.unbuilt
-
-pub returns-in-Err-clause-refused_at : goal.returns-in-Err-clause-refused_at
-returns-in-Err-clause-refused_at g c =
-    stands_behind _ _ _ _ _ _ _ c.in-Event.event c.in-Err.refusal c.loop-harts.invariant.underway c.in-Event.ensures.step c.in-Err.ensures.unbuilt
 
 pub returns-in-End-clause-came : goal.returns-in-End-clause-came
 returns-in-End-clause-came g c = at_end _ _ _ _ c.in-End.count _ _ _ _ c.loop-harts.invariant.underway c.in-End.ensures.told c.in-End.ensures.step
