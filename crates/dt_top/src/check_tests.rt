@@ -1,4 +1,4 @@
-//! Whole files by `pass`: several harts, loads, devices, counters, and input that is not judged.
+//! Whole files by `pass`: two harts, and input that is not judged. `checks/worked-rows` tries more of them.
 use crate::run_plain;
 use crate::tests::{ADDI, PASS, START, commit, expect_check, file_of, image_of, record, retire};
 use dt_record::{Body, Record};
@@ -86,59 +86,6 @@ fn a_load_sees_the_store_of_another_hart(rt: HostRuntime) -> Result<(), Fail> {
         rules L=0 S=0 P=0 I=0 D=0 C=0 Z=0\n"
     )?;
     expect_check(&rt, PASS, &image, &earlier, 0, &passed)
-}
-
-#[test]
-fn the_verdict_is_the_failure_with_the_least_key(rt: HostRuntime) -> Result<(), Fail> {
-    let image = image_of(rt.alloc(), &[ADDI])?;
-    let text = "FAIL stamp=20 hart=0 seq=0 reason=8 Value \
-        expected=0000000000000005 found=0000000000000006\nharts=2 records=0 writes=0\n\
-        hart 0 retired=0 traps=0 loads=0 stores=0 atomics=0 drains=0\n\
-        hart 1 retired=0 traps=0 loads=0 stores=0 atomics=0 drains=0\n\
-        rules L=0 S=0 P=0 I=0 D=0 C=0 Z=0\n";
-    for value in [6, 5] {
-        let records = [commit(20, 1, 0, ADDI, value), commit(20, 0, 0, ADDI, 6)];
-        let file = file_of(rt.alloc(), 2, &records)?;
-        expect_check(&rt, PASS, &image, &file, 1, text)?;
-    }
-    Ok(())
-}
-
-#[test]
-fn values_that_are_taken_over_have_their_rules(rt: HostRuntime) -> Result<(), Fail> {
-    // csrrs x1,cycle,x0, twice
-    let image = image_of(rt.alloc(), &[0xc000_20f3, 0xc000_20f3])?;
-    let records = [
-        commit(1, 0, 0, 0xc000_20f3, 0x64),
-        commit(2, 0, 4, 0xc000_20f3, 0x63),
-    ];
-    let text = "FAIL stamp=2 hart=0 seq=1 reason=14 Counter \
-        expected=0000000000000064 found=0000000000000063\nharts=1 records=1 writes=0\n\
-        hart 0 retired=1 traps=0 loads=0 stores=0 atomics=0 drains=0\n\
-        rules L=0 S=0 P=0 I=0 D=0 C=1 Z=0\n";
-    expect_check(
-        &rt,
-        PASS,
-        &image,
-        &file_of(rt.alloc(), 1, &records)?,
-        1,
-        text,
-    )?;
-    // ld x8,0(x0)
-    let image = image_of(rt.alloc(), &[0x0000_3403])?;
-    let file = file_of(rt.alloc(), 1, &[load(1, 0, 0, 0x0000_3403, 0xabc, 1, 0)])?;
-    let text = "PASS\nharts=1 records=1 writes=0\n\
-        hart 0 retired=1 traps=0 loads=1 stores=0 atomics=0 drains=0\n\
-        rules L=0 S=0 P=0 I=0 D=1 C=0 Z=0\nnote 1.0.0 rules=D from=-\n";
-    expect_check(&rt, SOURCES, &image, &file, 0, text)?;
-    // lb x8,0(x0)
-    let image = image_of(rt.alloc(), &[0x0000_0403])?;
-    let file = file_of(rt.alloc(), 1, &[load(1, 0, 0, 0x0000_0403, 0x80, 1, 0)])?;
-    let text = "FAIL stamp=1 hart=0 seq=0 reason=13 Adopt \
-        expected=ffffffffffffff80 found=0000000000000080\nharts=1 records=0 writes=0\n\
-        hart 0 retired=0 traps=0 loads=0 stores=0 atomics=0 drains=0\n\
-        rules L=0 S=0 P=0 I=0 D=0 C=0 Z=0\n";
-    expect_check(&rt, PASS, &image, &file, 1, text)
 }
 
 #[test]
