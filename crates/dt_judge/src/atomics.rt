@@ -33,6 +33,18 @@ pub struct Said {
     pub new: u64,
 }
 
+pub fn said_as(value: u64, paddr: u64, width: u8, wrote: bool, new: u64) -> Said
+    ensures { result ≡ record { value = value; paddr = paddr; width = width; wrote = wrote; new = new } }
+{
+    Said {
+        value,
+        paddr,
+        width,
+        wrote,
+        new,
+    }
+}
+
 /// How an atomic's address is translated: LR is a load, SC and AMO are stores.
 fn access_of(op: AtomicOp) -> Access
     ensures { result ≡ atomic_access op }
