@@ -164,6 +164,10 @@ ran_of_reply asked image probes image_old image_new probes_old probes_new out_ol
 
 -- ---- the replies
 
+asks_nothing : (asked : Option Asked) → asked ≡ None → IsSome asked → ⊥
+asks_nothing None none asks = cc
+asks_nothing (Some q) none asks = cc
+
 pub of_usage : (asked : Option Asked) (image probes : Option (List ℕ)) (image_old image_new probes_old probes_new : ℕ) → asked ≡ None → CameOf asked image probes image_old image_new probes_old probes_new usage_answer
 of_usage asked image probes image_old image_new probes_old probes_new none = record {
   own = λ _ _. subst (λ (q : Option Asked). WhereTold q image probes (λ i b. IsAnswer q i b usage_answer)) (sym none) (λ i b. usage_is_answer i b);
@@ -172,7 +176,7 @@ of_usage asked image probes image_old image_new probes_old probes_new none = rec
   too_long = λ e. cc;
   malformed = λ e. cc;
   limit = λ e. cc;
-  refused_comes = λ r asks. absurd (subst (λ (q : Option Asked). IsSome q) none asks);
+  refused_comes = λ r asks. absurd (asks_nothing asked none asks);
   read_fault = λ e. cc;
   memory = λ e. cc;
 }
