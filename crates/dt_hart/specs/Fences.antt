@@ -46,11 +46,12 @@ is_ordering FenceI = true
 is_ordering (SfenceVma rs1 rs2) = true
 is_ordering instr = false
 
+-- what a fence of any kind plans in a state
 abbrev pub ordering_plan : Arch → (bits : ℕ) → Option Instr → Option Planned
 ordering_plan a bits (Some instr) = if is_ordering instr then Some (plan_of a instr bits) else None
 ordering_plan a bits None = None
 
--- what a fence of any kind planned, where a commit in this state retired one
+-- what such a fence planned, where a commit in this state retired one
 abbrev pub ordering_in : Arch → Body → Option Planned
 ordering_in a (Commit retire) = ordering_plan a retire.bits (meaning_of retire.bits)
 ordering_in a body = None

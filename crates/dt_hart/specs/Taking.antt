@@ -30,7 +30,7 @@ is_placed (Some (Loaded ask)) = is_load_place ask
 is_placed (Some (Atomic key addr width reads acquires)) = is_atomic_place addr width
 is_placed action = true
 
--- whether an action orders accesses before and after it
+-- a FENCE
 abbrev pub is_fenced : Option Action → Bool
 is_fenced (Some (Fenced ww wr rr)) = true
 is_fenced action = false

@@ -148,7 +148,7 @@ fn a_load_notes_the_write_that_it_read(rt: HostRuntime) -> Result<(), Fail> {
     Ok(())
 }
 
-/// An LR and an SC with aq, an AMO without, and a fence of reads before reads.
+/// An LR and a failed SC with aq, an AMO without, and a fence of reads before reads.
 #[test]
 fn atomics_order_note_and_reserve(rt: HostRuntime) -> Result<(), Fail> {
     let mut hart = Hart::new(rt.alloc(), 1, false);
@@ -158,50 +158,23 @@ fn atomics_order_note_and_reserve(rt: HostRuntime) -> Result<(), Fail> {
         cause: 11,
         tval: 0,
     };
+    let lr = atomic(0x1405_35af, 0, false, 0);
+    let sc = atomic(0x1cc5_35af, 1, false, 0);
+    let add = atomic(0x00c5_35af, 0, true, 7);
+    let fence = commit(0x8000_0000, 0x0330_000f, 0);
     let other = key(5, 0, 3);
     let held = Some((LINE, key(10, 1, 0)));
     let added = key(13, 1, 3);
     for (stamp, body, from, floor, reserved, known) in [
-        (
-            10,
-            atomic(0x1405_35af, 0, false, 0),
-            Origin::Write(other),
-            10,
-            held,
-            other,
-        ),
+        (10, lr, Origin::Write(other), 10, held, other),
         (11, trap, Origin::Image, 10, held, other),
-        (
-            12,
-            atomic(0x1cc5_35af, 1, false, 0),
-            Origin::Image,
-            10,
-            None,
-            other,
-        ),
-        (
-            13,
-            atomic(0x00c5_35af, 0, true, 7),
-            Origin::Image,
-            10,
-            None,
-            added,
-        ),
-        (
-            14,
-            commit(0x8000_0000, 0x0330_000f, 0),
-            Origin::Image,
-            13,
-            None,
-            added,
-        ),
+        (12, sc, Origin::Image, 10, None, other),
+        (13, add, Origin::Image, 10, None, added),
+        (14, fence, Origin::Image, 13, None, added),
     ] {
         take(&rt, &mut hart, stamp, body, everywhere(from))?;
-        assert_eq!(rt;
-            (hart.floor(), hart.reserved()),
-            (floor, reserved),
-            "{stamp}"
-        );
+        assert_eq!(rt; hart.floor(), floor, "{stamp}");
+        assert_eq!(rt; hart.reserved(), reserved, "{stamp}");
         assert_eq!(rt; hart.local().newest(LINE), Some(known), "{stamp}");
     }
     Ok(())

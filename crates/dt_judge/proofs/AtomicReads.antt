@@ -1,33 +1,26 @@
-use Rattle.std.proofs.Common.{ℕ, ◌≡◌, ◌+◌, ◌-◌, ◌<◌, ◌==◌, ◌||◌, ◌++◌, Bool, true, false, Option, Some, None, List, map, replicate, zero, suc, Result, Ok, Err, IsTrue, IsSomeAnd, refl, sym, ap, subst, ◌∙◌, inl, inr, arith}
-use Rattle.std.specs.Prelude.{IfOk, slice_get}
-use Rattle.std.specs.List.{range_with_len}
+use Rattle.std.proofs.Common.{ℕ, ◌≡◌, ◌==◌, ◌||◌, Bool, true, false, Option, Some, None, List, Result, Ok, Err, IsTrue, IsSomeAnd, refl, sym, ap, subst, ◌∙◌, inl, inr, arith}
+use Rattle.std.specs.Prelude.{IfOk}
 use Rattle.std.specs.Option.{option_map_or}
 use Rattle.std.proofs.lemmas.Bool.{cases_Bool}
-use Rattle.std.proofs.lemmas.Bool.Decides.{nat_tests}
 use Rattle.dt_atomics.specs.declared.accesses.AtomicAccess.{AtomicAccess}
-use Rattle.dt_atomics.specs.Answers.{AtomicPasses, IsAtomicAnswer, access_check, may_succeed, old_value}
+use Rattle.dt_atomics.specs.Answers.{IsAtomicAnswer}
 use Rattle.dt_atomics.specs.Asking.{reads}
-use Rattle.dt_atomics.specs.Draining.{all_drained_check}
 use Rattle.dt_atomics.specs.Grounds.{AtomicGrounds}
-use Rattle.dt_atomics.specs.Reading.{source_of, sources_of}
-use Rattle.dt_atomics.specs.Values.{due_check, success_check, value_check, write_check}
+use Rattle.dt_atomics.specs.Laws.{AllowedAtomicsAreExact}
 use Rattle.dt_checks.specs.Retiring.{IsRetired, due_tag}
 use Rattle.dt_decode.specs.declared.instructions.Instr.{Instr}
 use Rattle.dt_decode.specs.declared.instructions.Instr.TheVariants.{Lui, Auipc, Jal, Jalr, Branch, Load, Store, AluImm, Alu, Fence, FenceI, Lr, Sc, Amo, Csr, Ecall, Ebreak, Sret, Mret, Wfi, SfenceVma}
 use Rattle.dt_hart.specs.Taking.{ReadsAtKey}
 use Rattle.dt_loads.specs.declared.reading.Passed.{Passed}
 use Rattle.dt_record.specs.declared.keys.Key.{Key}
-use Rattle.dt_record.specs.declared.origins.Origin.{Origin}
 use Rattle.dt_record.specs.declared.origins.Sources.{Sources}
 use Rattle.dt_record.specs.declared.records.Body.TheVariants as body
 use Rattle.dt_record.specs.declared.records.Retire.{Retire}
 use Rattle.dt_record.specs.declared.writes.Write.{Write}
 use Rattle.dt_record.specs.Actions.{Action}
-use Rattle.dt_record.specs.Memory.{moment_of}
 use Rattle.dt_reference.specs.HartActions.{body_action, reads_memory}
 use Rattle.dt_reference.specs.Meaning.{meaning_of}
 use Rattle.dt_rules.specs.declared.misfits.Misfit.{Misfit}
-use Rattle.dt_rules.specs.Checks.{and_then, check}
 use Rattle.dt_step.specs.declared.plans.AtomicOp.{AtomicOp}
 use Rattle.dt_step.specs.declared.plans.Planned.{Planned}
 use Rattle.dt_step.specs.declared.plans.Planned.TheVariants.{NeedsAtomic, Raises}
@@ -46,58 +39,21 @@ use Rattle.dt_judge.proofs.Placing.{differs, only_atomic}
 
 -- an atomic whose address is allowed, by its plan
 pub atomic_by : (g : Grounds) (key : Key) (stale : Bool) (plan : Planned) (va width : ℕ) (op : AtomicOp) (aq rl : Bool) (rd operand : ℕ) (said : Said) (older p : Bool) (f : Result Passed Misfit)
-    → plan ≡ NeedsAtomic va width op aq rl rd operand → accessed g (atomic_access op) true va said.paddr ≡ Ok older → (stale || older) ≡ p
+    → plan ≡ NeedsAtomic va width op aq rl rd operand → Ok older ≡ accessed g (atomic_access op) true va said.paddr → (stale || older) ≡ p
     → Accesses g key p (access_in op width rl operand said) f → AtomicBy g key stale plan said f
 atomic_by g key stale plan va width op aq rl rd operand said older p f planned allowed is accesses =
     subst (λ q. AtomicBy g key stale q said f) (sym planned)
     (leads_ok (accessed g (atomic_access op) true va said.paddr) older
-    (λ o found. Accesses g key (stale || o) (access_in op width rl operand said) found) f allowed
+    (λ o found. Accesses g key (stale || o) (access_in op width rl operand said) found) f (sym allowed)
     (subst (λ q. Accesses g key q (access_in op width rl operand said) f) (sym is) accesses))
 
--- what later checks give, where all hold
-later_ok : {A B : Type 0} (r : Result A Misfit) (later : A → Result B Misfit) (y : B) → and_then r later ≡ Ok y → (x : A) × (r ≡ Ok x) × (later x ≡ Ok y)
-later_ok (Ok x) later y is = (x, refl, is)
-later_ok (Err refused) later y is = let no : Err refused ≡ Ok y = is in absurd (cc)
-
-check_holds : {A : Type 0} (b : Bool) (refused : Misfit) (later : Result A Misfit) (y : A) → check b refused later ≡ Ok y → b ≡ true
-check_holds true refused later y is = refl
-check_holds false refused later y is = let no : Err refused ≡ Ok y = is in absurd (cc)
-
-same_number : (a b : ℕ) → (a == b) ≡ true → a ≡ b
-same_number a b test = grind (arith, nat_tests)
-
--- the record of an allowed atomic has the width of its instruction
-said_width : (g : AtomicGrounds) (key : Key) (x : AtomicAccess) → access_check g key x ≡ Ok tt → x.width ≡ x.said_width
-said_width g key x allowed =
-    let written : Unit {0} → Result (Unit {0}) Misfit = λ _. write_check (old_value g key x) x in
-    let valued : Unit {0} → Result (Unit {0}) Misfit = λ _. and_then (value_check (old_value g key x) x) written in
-    let drained = later_ok (all_drained_check g.actions key x) (λ _. and_then (success_check (may_succeed g key x) x) valued) tt allowed in
-    let succeeded = later_ok (success_check (may_succeed g key x) x) valued tt drained.2 in
-    let given = later_ok (value_check (old_value g key x) x) written tt succeeded.2 in
-    width_written (old_value g key x) x given.2
-  where
-    width_written : (old : ℕ) (x : AtomicAccess) → write_check old x ≡ Ok tt → x.width ≡ x.said_width
-    width_written old x is = elim (cases_Bool (x.width == x.said_width)) [
-      | inl same ↦ same_number x.width x.said_width same
-      | inr other ↦ let no : Err _ ≡ Ok tt = rw other at is in absurd (cc)
-    ]
-
-get_mapped : {X : Type 0} (f : ℕ → X) (a n i : ℕ) (ys : List X) → i < n → slice_get (map f (range_with_len a n) ++ ys) i ≡ Some (f (a + i))
-get_mapped f a zero i ys within = absurd (omega arith)
-get_mapped f a (suc n) zero ys within = let same : a ≡ a + 0 = omega arith in ap (λ j. Some (f j)) same
-get_mapped f a (suc n) (suc i) ys within =
-    let same : a + 1 + i ≡ a + suc i = omega arith in
-    get_mapped f (a + 1) n i ys (omega arith) ∙ ap (λ j. Some (f j)) same
-
-sources_there : (writes : List Write) (k : ℕ) (x : AtomicAccess) (i : ℕ) → IsTrue (reads x.op) → i < x.width → slice_get (sources_of writes k x).from i ≡ Some (source_of writes k (x.paddr + i))
-sources_there writes k x i reading within = rw reading (get_mapped (source_of writes k) x.paddr x.width i _ within)
-
 -- an LR or AMO that is allowed has its bytes from the writes with smaller keys
-pub reads_at_key : (g : AtomicGrounds) (key : Key) (x : AtomicAccess) (passed : Passed) → IsAtomicAnswer g key x (Ok passed) → IsTrue (reads x.op) → ReadsAtKey g.writes key x.paddr x.said_width passed.sources
-reads_at_key g key x passed answer reading = λ i within.
-    let passes : AtomicPasses g key x passed = answer.1 in
-    let width = said_width g key x answer.0 in
-    ap (λ (s : Sources). slice_get s.from i) passes.sources ∙ sources_there g.writes (moment_of g.writes key) x i reading (omega arith)
+pub reads_at_key : AllowedAtomicsAreExact → (g : AtomicGrounds) (key : Key) (x : AtomicAccess) (passed : Passed) → IsAtomicAnswer g key x (Ok passed) → IsTrue (reads x.op)
+    → ReadsAtKey g.writes key x.paddr x.said_width passed.sources
+reads_at_key law g key x passed answer reading = λ i within.
+    let exact = law g key x passed answer in
+    let width : x.said_width ≡ x.width = exact.width in
+    exact.origins reading i (omega arith)
 
 -- the letter P leaves the sources
 pub sources_stay : (Q : Sources → Type 0) (p : Bool) (found r : Result Passed Misfit) → r ≡ with_p p found → IfOk found (λ x. Q x.sources) → IfOk r (λ x. Q x.sources)

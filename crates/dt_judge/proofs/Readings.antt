@@ -30,12 +30,12 @@ use Rattle.dt_judge.proofs.Widths.{retired_width}
 
 -- a load whose address is allowed, by its plan
 pub loads_by : (g : Grounds) (key : Key) (stale : Bool) (plan : Planned) (va width : ℕ) (signed : Bool) (rd value at paddr : ℕ) (older p in_ram : Bool) (f : Result Passed Misfit)
-    → plan ≡ NeedsLoad va width signed rd → accessed g access.Load false va paddr ≡ Ok older → (stale || older) ≡ p → is_in_ram paddr ≡ in_ram
+    → plan ≡ NeedsLoad va width signed rd → Ok older ≡ accessed g access.Load false va paddr → (stale || older) ≡ p → is_in_ram paddr ≡ in_ram
     → Loads in_ram g p (ask_of key at paddr width value) signed value f → LoadsBy g key stale plan value at paddr f
 loads_by g key stale plan va width signed rd value at paddr older p in_ram f planned allowed is ram loads =
     subst (λ q. LoadsBy g key stale q value at paddr f) (sym planned)
     (leads_ok (accessed g access.Load false va paddr) older
-    (λ o found. Loads (is_in_ram paddr) g (stale || o) (ask_of key at paddr width value) signed value found) f allowed
+    (λ o found. Loads (is_in_ram paddr) g (stale || o) (ask_of key at paddr width value) signed value found) f (sym allowed)
     (subst (λ b. Loads b g (stale || older) (ask_of key at paddr width value) signed value f) (sym ram)
     (subst (λ q. Loads in_ram g q (ask_of key at paddr width value) signed value f) (sym is) loads)))
 

@@ -13,7 +13,7 @@ ghost use Rattle.dt_judge.specs.Kinds.{Accesses, AtomicBy, IsAtomicFinding};
 
 use crate::kinds::{PLAIN, with_p};
 use crate::spans::{accessed, started};
-use dt_atomics::AtomicAccess;
+use dt_atomics::{AtomicAccess, allowed_atomics_are_exact};
 use dt_checks::Started;
 use dt_hart::Hart;
 use dt_loads::Passed;
@@ -33,6 +33,18 @@ pub struct Said {
     pub new: u64,
 }
 
+pub fn said_as(value: u64, paddr: u64, width: u8, wrote: bool, new: u64) -> Said
+    ensures { result ≡ record { value = value; paddr = paddr; width = width; wrote = wrote; new = new } }
+{
+    Said {
+        value,
+        paddr,
+        width,
+        wrote,
+        new,
+    }
+}
+
 /// How an atomic's address is translated: LR is a load, SC and AMO are stores.
 fn access_of(op: AtomicOp) -> Access
     ensures { result ≡ atomic_access op }
@@ -49,6 +61,7 @@ fn at_address(h: &Hart, m: &Moments, p: bool, key: Key, x: AtomicAccess) -> Resu
     ensures finds { (last : ℕ) (actions : List Action) (moments : ℕ → ℕ) → Remembers h.now m.now.writes key actions moments → Accesses (grounds_kept h.now m.now last actions moments) key p x result }
     ensures read { IfOk result (λ passed. (actions : List Action) (moments : ℕ → ℕ) → Remembers h.now m.now.writes key actions moments → IsTrue (reads x.op) → ReadsAtKey m.now.writes key x.paddr x.said_width passed.sources) }
 {
+    allowed_atomics_are_exact();
     with_p(
         p,
         dt_atomics::atomic(m, h.stores(), h.local(), h.reserved(), key, x),

@@ -8,7 +8,7 @@ ghost use Rattle.dt_judge.specs.Judgement.{FindsBody};
 ghost use Rattle.dt_judge.specs.Keeping.{Remembers, WasFound, grounds_kept};
 ghost use Rattle.dt_judge.specs.Kinds.{seen_by};
 
-use crate::atomics::{Said, atomic};
+use crate::atomics::{atomic, said_as};
 use crate::kinds::{PLAIN, commit, drain, fine, refill, store, trap};
 use crate::loads::load;
 use dt_commits::{shows_csrs, shows_registers};
@@ -60,13 +60,7 @@ pub fn finding(
             wrote,
             new,
         } => {
-            let said = Said {
-                value: retire.value,
-                paddr: *paddr,
-                width: *width,
-                wrote: *wrote,
-                new: *new,
-            };
+            let said = said_as(retire.value, *paddr, *width, *wrote, *new);
             atomic(h, m, last, key, *retire, said)
         }
         Body::Drain {

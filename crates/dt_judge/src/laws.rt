@@ -12,7 +12,7 @@ pub fn records_have_one_finding()
     loads_have_one_answer();
 }
 
-/// Moments do not count but those of the hart's earlier loads.
+/// Only the moments at which the hart's earlier loads read count.
 pub fn earlier_moments_decide()
     ensures { EarlierMomentsDecide }
 {}

@@ -4,6 +4,7 @@ use Rattle.dt_atomics.specs.declared.accesses.AtomicAccess.{AtomicAccess}
 use Rattle.dt_atomics.specs.Answers.{IsAtomicAnswer}
 use Rattle.dt_atomics.specs.Asking.{reads}
 use Rattle.dt_atomics.specs.Grounds.{atomic_grounds}
+use Rattle.dt_atomics.specs.Laws.{AllowedAtomicsAreExact}
 use Rattle.dt_hart.specs.HartView.{HartView}
 use Rattle.dt_hart.specs.Taking.{ReadsAtKey}
 use Rattle.dt_loads.specs.declared.reading.Passed.{Passed}
@@ -28,9 +29,9 @@ abbrev Reads : HartView → History → Key → AtomicAccess → Sources → Typ
 Reads h m key x sources =
     (actions : List Action) (moments : ℕ → ℕ) → Remembers h m.writes key actions moments → IsTrue (reads x.op) → ReadsAtKey m.writes key x.paddr x.said_width sources
 
-read_where_allowed : (h : HartView) (m : History) (key : Key) (x : AtomicAccess) (r : Result Passed Misfit) → IsAnswered h m key x r → IfOk r (λ y. Reads h m key x y.sources)
-read_where_allowed h m key x (Ok y) answered = λ actions moments known reading. reads_at_key (atomic_grounds m actions moments h.reserved) key x y (answered actions moments known) reading
-read_where_allowed h m key x (Err refused) answered = tt
+read_where_allowed : AllowedAtomicsAreExact → (h : HartView) (m : History) (key : Key) (x : AtomicAccess) (r : Result Passed Misfit) → IsAnswered h m key x r → IfOk r (λ y. Reads h m key x y.sources)
+read_where_allowed law h m key x (Ok y) answered = λ actions moments known reading. reads_at_key law (atomic_grounds m actions moments h.reserved) key x y (answered actions moments known) reading
+read_where_allowed law h m key x (Err refused) answered = tt
 
 pub returns-clause-finds : goal.returns-clause-finds
 returns-clause-finds c = λ last actions moments known.
@@ -46,4 +47,4 @@ returns-clause-read c =
     let stores = subst (λ (k : Kept). Keeps k actions) (sym c.stores.ensures) known.stores in
     subst (λ (r : Option (ℕ × Key)). IsAtomicAnswer (atomic_grounds c.args.m.now actions moments r) c.args.key c.args.x c.atomic.result) c.reserved.ensures (c.atomic.ensures actions moments stores knows) in
     sources_stay (Reads c.args.h.now c.args.m.now c.args.key c.args.x) c.args.p c.atomic.result c.with_p.result c.with_p.ensures.value
-    (read_where_allowed c.args.h.now c.args.m.now c.args.key c.args.x c.atomic.result answered)
+    (read_where_allowed c.allowed_atomics_are_exact.ensures c.args.h.now c.args.m.now c.args.key c.args.x c.atomic.result answered)

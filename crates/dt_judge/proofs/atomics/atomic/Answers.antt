@@ -1,5 +1,4 @@
 use Rattle.std.proofs.Common.{ℕ, List, sym}
-use Rattle.std.specs.Prelude.{IfOk}
 use Rattle.dt_loads.specs.declared.reading.Passed.{Passed}
 use Rattle.dt_record.specs.declared.records.Body.TheVariants as body
 use Rattle.dt_record.specs.Actions.{Action}

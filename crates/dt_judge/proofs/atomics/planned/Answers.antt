@@ -1,16 +1,13 @@
-use Rattle.std.proofs.Common.{ℕ, ◌≡◌, ◌||◌, Bool, true, List, Ok, sym, ap, subst, ◌∙◌}
+use Rattle.std.proofs.Common.{ℕ, ◌≡◌, ◌||◌, Bool, true, List, sym, ap, subst, ◌∙◌}
 use Rattle.std.specs.Prelude.{IfOk}
 use Rattle.dt_checks.specs.Addresses.{address_check}
 use Rattle.dt_checks.specs.Translating.{walk_args}
 use Rattle.dt_loads.specs.declared.reading.Passed.{Passed}
 use Rattle.dt_record.specs.Actions.{Action}
 use Rattle.dt_step.specs.declared.plans.Planned.{Planned}
-use Rattle.dt_traps.specs.Instructions.{atomic_access}
 use Rattle.dt_walk.specs.declared.arguments.Access.{Access}
 use Rattle.dt_judge.specs.Keeping.{IsAccessedBy, Remembers, grounds_kept, window_kept}
-use Rattle.dt_judge.specs.Kinds.{accessed}
 use Rattle.dt_judge.proofs.AtomicReads.{atomic_by}
-use Rattle.dt_judge.proofs.Placing.{only_atomic}
 use Rattle.dt_judge.proofs.atomics.planned.Goals as goal
 use Rattle.dt_judge.proofs.atomics.planned.Goals.{then-st, else-st}
 
@@ -23,7 +20,7 @@ returns-after-st-clause-finds c = λ actions moments known.
     let op = c.in-NeedsAtomic.op in
     let older = c.in_ok-older-in-NeedsAtomic.older in
     let there = ap (λ (a : Access). address_check m.image m.writes (window_kept h c.args.last va) (walk_args h.arch a va) true c.args.said.paddr) c.access_of.ensures in
-    let allowed : accessed g (atomic_access op) true va c.args.said.paddr ≡ Ok older = sym (c.in_ok-older-in-NeedsAtomic.ensures.value ∙ there) in
+    let allowed = c.in_ok-older-in-NeedsAtomic.ensures.value ∙ there in
     let p : (c.args.st.stale || older) ≡ c.if-st.at_address =
     elim c.if-st.branch [
       | then-st w ↦ ap (λ (b : Bool). b || older) w.if-st.true ∙ sym (w.at_address-is ∙ w.if-st.true)

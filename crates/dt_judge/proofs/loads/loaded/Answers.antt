@@ -1,7 +1,6 @@
-use Rattle.std.proofs.Common.{◌≡◌, ◌||◌, Bool, true, false, Ok, sym, ap, subst, ◌∙◌}
+use Rattle.std.proofs.Common.{◌≡◌, ◌||◌, Bool, true, sym, ap, subst, ◌∙◌}
 use Rattle.dt_record.specs.declared.accesses.LoadAsk.{LoadAsk}
-use Rattle.dt_judge.specs.Kinds.{LoadsRam, accessed}
-use Rattle.dt_walk.specs.declared.arguments.Access.TheVariants as access
+use Rattle.dt_judge.specs.Kinds.{LoadsRam}
 use Rattle.dt_judge.specs.Keeping.{Remembers, grounds_kept}
 use Rattle.dt_judge.proofs.Placing.{only_load}
 use Rattle.dt_judge.proofs.Readings.{loads_by, reads_by}
@@ -13,7 +12,6 @@ returns-then-is_in_ram-clause-finds c = λ actions moments known.
     let h = c.args.h.now in
     let m = c.args.m.now in
     let g = grounds_kept h m c.args.last actions moments in
-    let allowed : accessed g access.Load false c.in-NeedsLoad.va c.args.paddr ≡ Ok c.in_ok-older-in-NeedsLoad.older = sym c.in_ok-older-in-NeedsLoad.ensures.value in
     let p : (c.args.st.stale || c.in_ok-older-in-NeedsLoad.older) ≡ c.if-st.p =
     elim c.if-st.branch [
       | then-st w ↦ ap (λ (b : Bool). b || c.in_ok-older-in-NeedsLoad.older) w.if-st.true ∙ sym (w.p-is ∙ w.if-st.true)
@@ -24,7 +22,7 @@ returns-then-is_in_ram-clause-finds c = λ actions moments known.
     let loads = subst (λ (a : LoadAsk). LoadsRam g c.if-st.p a c.in-NeedsLoad.signed c.args.value c.from_ram.result) c.load_ask-ask.ensures (c.from_ram.ensures.finds c.args.last actions moments asked) in
     loads_by g c.args.key c.args.st.stale c.args.st.plan
     c.in-NeedsLoad.va c.in-NeedsLoad.width c.in-NeedsLoad.signed c.in-NeedsLoad.rd c.args.value c.args.at c.args.paddr
-    c.in_ok-older-in-NeedsLoad.older c.if-st.p true c.from_ram.result c.in-NeedsLoad.is allowed p ram loads
+    c.in_ok-older-in-NeedsLoad.older c.if-st.p true c.from_ram.result c.in-NeedsLoad.is c.in_ok-older-in-NeedsLoad.ensures.value p ram loads
 
 pub returns-then-is_in_ram-clause-read : goal.returns-then-is_in_ram-clause-read
 returns-then-is_in_ram-clause-read c =

@@ -1,5 +1,3 @@
-use Rattle.std.proofs.Common.{◌≡◌}
-use Rattle.dt_judge.specs.Kinds.{seen_by}
 use Rattle.dt_judge.proofs.FirstVisible.{begin_is_first}
 use Rattle.dt_judge.proofs.LastVisible.{end_is_last}
 use Rattle.dt_judge.proofs.spans.seen_by.Goals as goal
