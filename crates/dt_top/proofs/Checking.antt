@@ -1,12 +1,11 @@
 -- What the answers of a probe file say of its check.
-use Rattle.std.proofs.Common.{◌≡◌, ◌≢◌, ℕ, ◌+◌, Bool, true, List, [], ◌∷◌, ◌++◌, map, length, Option, Some, None, IfSome, Err, cond, refl, sym, ap, ◌∙◌, subst, arith}
+use Rattle.std.proofs.Common.{◌≡◌, ◌≢◌, ℕ, Bool, List, [], ◌∷◌, ◌++◌, map, length, Option, Some, None, IfSome, refl, sym, ap, ◌∙◌, subst}
 use Rattle.std.specs.Option.{option_map}
 use Rattle.std.specs.String.{string_bytes}
 use Rattle.dt_source.specs.Faults.{Rose}
 use Rattle.dt_record.specs.declared.records.Record.{Record}
 use Rattle.dt_record.specs.declared.streams.Next.{Next}
-use Rattle.dt_record.specs.declared.streams.Next.TheVariants as next
-use Rattle.dt_record.specs.declared.streams.Next.TheVariants.{Header, Event, End}
+use Rattle.dt_record.specs.declared.streams.Next.TheVariants.{Event, End}
 use Rattle.dt_record.specs.Answers.{Reading, AreAnswers, AreAnswersAfter, after_record}
 use Rattle.dt_record.specs.Streams.{Progress}
 use Rattle.dt_probe_file.specs.Told.{answers_of}

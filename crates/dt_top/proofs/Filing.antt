@@ -13,10 +13,10 @@ use Rattle.dt_dump.specs.Dump.{AppendsPart, IsCutShort, dump_text, last_status, 
 use Rattle.dt_convert.specs.Convert.{converted}
 use Rattle.dt_verdict.specs.declared.answers.Refusal.{Refusal}
 use Rattle.dt_verdict.specs.declared.answers.Refusal.TheVariants as refusal
-use Rattle.dt_words.specs.declared.commands.Task.TheVariants.{Pass, Dump, Convert}
+use Rattle.dt_words.specs.declared.commands.Task.TheVariants.{Dump, Convert}
 use Rattle.dt_words.specs.Table.{Asked}
 use Rattle.dt_pass.specs.Reading.{refusal_in}
-use Rattle.dt_top.specs.Answer.{Answer, answer, refusal_of, refusal_status, version_named, EndsAtLimit, EndsMalformed, IsAnswer, StopsWith, WhereTold}
+use Rattle.dt_top.specs.Answer.{answer, refusal_of, refusal_status, version_named, EndsAtLimit, EndsMalformed, IsAnswer, StopsWith, WhereTold}
 use Rattle.dt_top.specs.Running.{Ran}
 use Rattle.dt_top.proofs.Tasks.{not_dump, not_convert, dump_is_not_convert, either, of_bytes, where_dump, where_convert}
 

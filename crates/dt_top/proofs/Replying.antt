@@ -1,5 +1,5 @@
 -- What a reply to words comes to.
-use Rattle.std.proofs.Common.{◌≡◌, ◌≢◌, ◌≤◌, ◌<◌, ◌⊎◌, ℕ, Bool, List, [], length, Option, Some, None, Result, Ok, Err, IfSome, IsSome, IsSomeAnd, refl, sym, ap, ◌∙◌, subst, inl, inr, arith}
+use Rattle.std.proofs.Common.{◌≡◌, ◌≢◌, ◌≤◌, ℕ, Bool, List, length, Option, Some, None, Result, Ok, Err, IfSome, IsSome, IsSomeAnd, refl, sym, ap, ◌∙◌, subst, inl, inr, arith}
 use Rattle.std.specs.String.{string_bytes}
 use Rattle.std.specs.Prelude.{nat_le}
 use Rattle.std.proofs.lemmas.Bool.{cases_eq}
@@ -18,7 +18,7 @@ use Rattle.dt_words.specs.declared.commands.Task.TheVariants as tasks
 use Rattle.dt_words.specs.Table.{Asked}
 use Rattle.dt_top.specs.declared.replies.Reply.{Reply}
 use Rattle.dt_top.specs.declared.replies.Reply.TheVariants as reply
-use Rattle.dt_top.specs.Answer.{Answer, answer, verdict_status, usage_answer, too_long_answer, image_fault_answer, memory_answer, refusal_answer, refusal_line, refusal_of, refusal_status, AsksFor, IsAnswer, IsReport, IsTooLong, MayWrite, WhereTold}
+use Rattle.dt_top.specs.Answer.{Answer, answer, verdict_status, usage_answer, too_long_answer, image_fault_answer, memory_answer, refusal_answer, refusal_line, refusal_of, refusal_status, IsAnswer, IsReport, IsTooLong, MayWrite, WhereTold}
 use Rattle.dt_top.specs.Replies.{answer_by, CameOf, IsPassReply}
 use Rattle.dt_top.specs.Running.{IsPut, Ran}
 use Rattle.dt_top.proofs.Tasks.{both_told, either, not_dump, not_convert, some_map, where_map, where_pass}

@@ -1,4 +1,4 @@
-use Rattle.dt_top.proofs.Replying.{of_image_fault, of_memory, of_pass, of_too_long}
+use Rattle.dt_top.proofs.Replying.{of_pass}
 use Rattle.dt_top.proofs.replies.check_reply.Goals as goal
 
 pub returns-in-Ok-clause-came : goal.returns-in-Ok-clause-came
