@@ -9,14 +9,13 @@ ghost use Rattle.dt_convert.specs.Reading.{IsFileOf, StopsAt};
 use crate::pieces::{put_end, put_header, put_record};
 use crate::versions::FileVersion;
 use dt_dump::{WRITE_FAULT, put_last};
-use dt_probe_file::LentProbes;
-use dt_record::Next;
+use dt_record::{Next, Probes};
 use dt_source::{Failed, Sink, write_all};
 use std::alloc::Global;
 
 /// The bytes of the file of a stream that comes to its end; else the answer that it stopped at.
 /// Where memory was refused, it gives that in its place.
-fn file_of<P: LentProbes>(
+fn file_of<P: Probes>(
     alloc: Global,
     version: FileVersion,
     probes: &mut P,
@@ -34,7 +33,7 @@ fn file_of<P: LentProbes>(
     let mut bytes = Vec::new(alloc);
     let mut stamps = [0; 8];
     loop {
-        match probes.answer() {
+        match probes.next() {
             Next::Header { harts, wide } => {
                 match put_header(version, harts, wide, &mut bytes) {
                     Ok(()) => {}
@@ -75,7 +74,7 @@ fn put_file<O: Sink>(bytes: &[u8], out: &mut O) -> u8
 /// no memory, 8 there is too much of something.
 ///
 /// It keeps the bytes of the whole file.
-pub fn convert_probes<P: LentProbes, O: Sink>(
+pub fn convert_probes<P: Probes, O: Sink>(
     alloc: Global,
     to: FileVersion,
     probes: &mut P,

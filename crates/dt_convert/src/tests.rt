@@ -4,7 +4,6 @@ ghost use Rattle.dt_record.specs.Lawful.{FitsRecord, IsLawful};
 ghost use Rattle.dt_record.specs.Writes.{writes_memory};
 
 use crate::{FileVersion, convert_probes};
-use dt_probe_file::LentProbes;
 use dt_record::{Body, Next, Probes, Record, Retire, What};
 use dt_source::MemSink;
 use std::alloc::Global;
@@ -106,12 +105,6 @@ impl Probes for Script {
         };
         self.ended = Some(last);
         last
-    }
-}
-
-impl LentProbes for Script {
-    fn answer(&mut self) -> Next {
-        self.next()
     }
 }
 

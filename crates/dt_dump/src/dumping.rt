@@ -7,14 +7,13 @@ ghost use Rattle.dt_dump.specs.Dump.{AppendsPart, IsCutShort, MayDump, stream_st
 ghost use Rattle.dt_dump.specs.Reading.{CameTo};
 
 use crate::lines::{Stop, WRITE_FAULT, put_last, put_record};
-use dt_probe_file::LentProbes;
-use dt_record::Next;
+use dt_record::{Next, Probes};
 use dt_source::{Failed, Sink};
 use std::alloc::Global;
 
 /// Writes the lines of the records of a stream up to the first answer that is no record, and gives
 /// that answer. Where memory was refused, it gives that in its place.
-fn put_records<P: LentProbes, O: Sink>(
+fn put_records<P: Probes, O: Sink>(
     alloc: Global,
     probes: &mut P,
     out: &mut O,
@@ -35,7 +34,7 @@ fn put_records<P: LentProbes, O: Sink>(
 {
     let mut counts = [0; 8];
     loop {
-        match probes.answer() {
+        match probes.next() {
             Next::Header { .. } => {}
             Next::Event(event) => match put_record(alloc, &event, &mut counts, out) {
                 Ok(()) => {}
@@ -54,7 +53,7 @@ fn put_records<P: LentProbes, O: Sink>(
 /// no memory, 8 there is too much of something.
 ///
 /// It keeps one record at a time.
-pub fn dump_probes<P: LentProbes, O: Sink>(alloc: Global, probes: &mut P, out: &mut O) -> u8
+pub fn dump_probes<P: Probes, O: Sink>(alloc: Global, probes: &mut P, out: &mut O) -> u8
     requires { IsFresh (P.progress probes.old) }
     // Whatever failed: another status than those of a fault or of want of memory comes with the
     // text that all answers have.

@@ -11,8 +11,7 @@ ghost use Rattle.dt_pass.specs.Reading.{AreStreamed, IsRefusedAt, refusal_in};
 
 use crate::reading::{Listed, read_all};
 use crate::running::run_all;
-use dt_probe_file::LentProbes;
-use dt_record::{Image, Key, Record};
+use dt_record::{Image, Key, Probes, Record};
 use dt_tallies::{count, named};
 use dt_verdict::{Checked, HartCounts, Noted, Refusal, Tallies, Verdict, least};
 use dt_versions::Moments;
@@ -22,7 +21,7 @@ use std::alloc::{AllocError, Global};
 /// Checks the records of a stream that has answered nothing yet against an image. It reads the
 /// stream to its end before it judges, and keeps all records. Where the records are refused, the
 /// stream has been read up to what the refusal names.
-pub fn pass<P: LentProbes>(alloc: Global, image: &Image, probes: &mut P) -> Result<Checked, Refusal>
+pub fn pass<P: Probes>(alloc: Global, image: &Image, probes: &mut P) -> Result<Checked, Refusal>
     requires { IsFresh (P.progress probes.old) }
     ensures checked { IfOk result (λ checked. IsCheckOf image.now (P.left probes.old) (P.progress probes.new) checked) }
     ensures accepted { OnOk result (IfSome (P.left probes.old) (λ answers. refusal_in answers ≡ None)) }

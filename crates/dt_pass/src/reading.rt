@@ -3,8 +3,7 @@ ghost use Rattle.dt_record.specs.Streams.{IsFresh, Rose};
 ghost use Rattle.dt_verdict.specs.declared.answers.Refusal.TheVariants as refusal;
 ghost use Rattle.dt_pass.specs.Reading.{HasCome, IsRefusedAt, refusal_in};
 
-use dt_probe_file::LentProbes;
-use dt_record::{Next, Record};
+use dt_record::{Next, Probes, Record};
 use dt_verdict::Refusal;
 use std::alloc::Global;
 
@@ -17,7 +16,7 @@ pub(crate) struct Listed {
 }
 
 /// Reads a stream to its end.
-pub(crate) fn read_all<P: LentProbes>(alloc: Global, probes: &mut P) -> Result<Listed, Refusal>
+pub(crate) fn read_all<P: Probes>(alloc: Global, probes: &mut P) -> Result<Listed, Refusal>
     requires { IsFresh (P.progress probes.old) }
     ensures came { IfOk result (λ l. HasCome (P.left probes.old) (P.progress probes.new) l.harts l.wide l.records.items) }
     ensures accepted { OnOk result (IfSome (P.left probes.old) (λ answers. refusal_in answers ≡ None)) }
@@ -33,7 +32,7 @@ pub(crate) fn read_all<P: LentProbes>(alloc: Global, probes: &mut P) -> Result<L
         records: Vec::new(alloc),
     };
     loop {
-        match probes.answer() {
+        match probes.next() {
             Next::Header { harts, wide } => {
                 stream.harts = harts;
                 stream.wide = wide;

@@ -6,7 +6,6 @@ mod fronts;
 mod headers;
 mod holding;
 mod laws;
-mod lending;
 mod probes;
 mod reading;
 mod steps;
@@ -14,5 +13,4 @@ mod steps;
 mod tests;
 
 pub use laws::{file_answers, one_list};
-pub use lending::LentProbes;
 pub use probes::{FileProbes, Room};

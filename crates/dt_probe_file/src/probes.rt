@@ -7,7 +7,6 @@ ghost use Rattle.dt_probe_file.specs.Parts.{whole};
 ghost use Rattle.dt_probe_file.specs.Told.{AreToldOf, answers_of, ended_by, left_of, progress_of};
 
 use crate::holding::Held;
-use crate::lending::LentProbes;
 use crate::reading::Opened;
 use crate::steps::{step_behind, step_header};
 use dt_record::{Next, Probes};
@@ -57,7 +56,7 @@ impl<S: Source + Drop> FileProbes<S> {
         ensures fresh { IfOk result (λ probes. IsFresh (⟦<FileProbes<S> as Probes>⟧.progress probes)) }
         ensures told { IfOk result (λ probes. AreToldOf (S.left source) (⟦<FileProbes<S> as Probes>⟧.left probes)) }
         ensures faults { IfOk result (λ probes. ⟦<FileProbes<S> as Probes>⟧.faults probes ≡ S.faults source) }
-        ensures same_lent { IfOk result (λ probes. ⟦<FileProbes<S> as LentProbes>⟧.lent probes ≡ S.lent source) }
+        ensures same_lent { IfOk result (λ probes. ⟦<FileProbes<S> as Probes>⟧.lent probes ≡ S.lent source) }
     {
         let room = Room::new(alloc)?;
         Ok(FileProbes::within(room, source))
@@ -69,7 +68,7 @@ impl<S: Source + Drop> FileProbes<S> {
         ensures fresh { IsFresh (⟦<FileProbes<S> as Probes>⟧.progress result) }
         ensures told { ⟦<FileProbes<S> as Probes>⟧.left result ≡ option_map answers_of (S.left source) }
         ensures faults { ⟦<FileProbes<S> as Probes>⟧.faults result ≡ S.faults source }
-        ensures same_lent { ⟦<FileProbes<S> as LentProbes>⟧.lent result ≡ S.lent source }
+        ensures same_lent { ⟦<FileProbes<S> as Probes>⟧.lent result ≡ S.lent source }
     {
         FileProbes {
             source,
@@ -83,7 +82,7 @@ impl<S: Source + Drop> FileProbes<S> {
     /// back knows what became of it.
     pub fn into_source(self) -> S
         ensures faults { S.faults result ≡ ⟦<FileProbes<S> as Probes>⟧.faults self }
-        ensures same_lent { S.lent result ≡ ⟦<FileProbes<S> as LentProbes>⟧.lent self }
+        ensures same_lent { S.lent result ≡ ⟦<FileProbes<S> as Probes>⟧.lent self }
     {
         self.source
     }
@@ -96,19 +95,13 @@ impl<S: Source> Probes for FileProbes<S> {
 
     ghost faults = { λ p. S.faults p.source };
 
+    ghost lent = { λ p. S.lent p.source };
+
     fn is_over(&self) -> bool {
         self.ended.is_some()
     }
 
     fn next(&mut self) -> Next {
-        self.answer()
-    }
-}
-
-impl<S: Source> LentProbes for FileProbes<S> {
-    ghost lent = { λ p. S.lent p.source };
-
-    fn answer(&mut self) -> Next {
         let step = match &self.opened {
             None => step_header(&mut self.source, &mut self.held),
             Some(opened) => step_behind(&mut self.source, &mut self.held, opened),

@@ -1,4 +1,5 @@
-ghost use Rattle.std.specs.Prelude.{◌≡◌, ℕ, ◌≤◌, ◌↔◌, List, Option, IsTrue, IsSome, IsNone};
+ghost use Rattle.std.specs.Borrow.{GName};
+ghost use Rattle.std.specs.Prelude.{◌≡◌, ℕ, ◌≤◌, ◌↔◌, List, Option, None, IsTrue, IsSome, IsNone};
 ghost use Rattle.dt_record.specs.declared.streams.Next.{Next};
 ghost use Rattle.dt_record.specs.Streams.{Progress, Continues, TakesAnswer, Rose};
 
@@ -35,6 +36,10 @@ pub trait Probes {
     /// How often the source has failed.
     ghost faults: { Self → ℕ };
 
+    // The reference that the stream reads its source through, where that source is a lent one. A
+    // stream keeps it, so who lent the source knows what became of it once the stream is gone.
+    ghost lent: { Self → Option GName } = { λ _. None };
+
     fn is_over(&self) -> bool
         ensures { IsTrue result ↔ IsSome (progress self.now).ended };
 
@@ -44,5 +49,6 @@ pub trait Probes {
         ensures step { Continues (progress self.old) result (progress self.new) }
         ensures told { TakesAnswer (left self.old) result (left self.new) }
         ensures rising { faults self.old ≤ faults self.new }
-        ensures fault { result ≡ Next.ReadFault → Rose (faults self.old) (faults self.new) };
+        ensures fault { result ≡ Next.ReadFault → Rose (faults self.old) (faults self.new) }
+        ensures same_lent { lent self.new ≡ lent self.old };
 }

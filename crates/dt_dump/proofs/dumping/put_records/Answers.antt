@@ -24,7 +24,7 @@ loop-event-preserved g c =
     let fits : c.in-Event.event.hart < 8 = hart_fits _ _ u.given c.in-Event.event c.in-Event.ensures.step u.tells in
     record {
       underway =
-          subst (λ (counts : List ℕ). IsUnderway (g.P.Probes.left c.args.probes.now) (g.P.Probes.left c.answer.new.self) (g.O.Sink.written c.args.out.now) (g.O.Sink.written c.put_record.new.out) counts (g.P.Probes.progress c.answer.new.self))
+          subst (λ (counts : List ℕ). IsUnderway (g.P.Probes.left c.args.probes.now) (g.P.Probes.left c.next.new.self) (g.O.Sink.written c.args.out.now) (g.O.Sink.written c.put_record.new.out) counts (g.P.Probes.progress c.next.new.self))
           (sym c.in-Ok.ensures.counted)
           (after_record _ _ _ _ _ _ c.loop-event.counts _ _ c.in-Event.event u c.in-Event.ensures.told c.in-Event.ensures.step fits c.in-Ok.ensures.ok);
       probes_counted = omega (arith, c.loop-event.invariant.probes_counted, c.in-Event.ensures.rising);

@@ -11,7 +11,7 @@ invariant-loop-event g l =
       underway : IsUnderway (left l.fn.probes) (left l.probes) (written l.fn.out) (written l.out) l.counts (g.P.Probes.progress l.probes);
       probes_counted : g.P.Probes.faults l.fn.probes ≤ g.P.Probes.faults l.probes;
       out_counted : g.O.Sink.faults l.fn.out ≤ g.O.Sink.faults l.out;
-      same_lent : g.P.LentProbes.lent l.probes ≡ g.P.LentProbes.lent l.fn.probes;
+      same_lent : g.P.Probes.lent l.probes ≡ g.P.Probes.lent l.fn.probes;
     }
 
 abbrev pub decreases-loop-event : goal.decreases-loop-event

@@ -6,10 +6,10 @@ use Rattle.dt_pass.proofs.reading.read_all.Goals as goal
 pub loop-harts-preserved : goal.loop-harts-preserved
 loop-harts-preserved g c =
     let left = g.P.Probes.left in
-    let new = g.P.Probes.progress c.answer.new.self in
+    let new = g.P.Probes.progress c.next.new.self in
     record {
       underway =
-          subst (λ (rs : List Record). IsUnderway (left c.args.probes.now) (left c.answer.new.self) c.loop-harts.stream.harts c.loop-harts.stream.wide rs new)
+          subst (λ (rs : List Record). IsUnderway (left c.args.probes.now) (left c.next.new.self) c.loop-harts.stream.harts c.loop-harts.stream.wide rs new)
           (sym c.in-Ok.ensures.items)
           (after_record _ _ _ _ _ _ _ _ c.in-Event.event c.loop-harts.invariant.underway c.in-Event.ensures.told c.in-Event.ensures.step);
       counted = omega (arith, c.loop-harts.invariant.counted, c.in-Event.ensures.rising);

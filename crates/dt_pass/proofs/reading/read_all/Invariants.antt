@@ -9,7 +9,7 @@ invariant-loop-harts g l =
     record {
       underway : IsUnderway (left l.fn.probes) (left l.probes) l.stream.harts l.stream.wide l.stream.records.items (g.P.Probes.progress l.probes);
       counted : g.P.Probes.faults l.fn.probes ≤ g.P.Probes.faults l.probes;
-      same_lent : g.P.LentProbes.lent l.probes ≡ g.P.LentProbes.lent l.fn.probes;
+      same_lent : g.P.Probes.lent l.probes ≡ g.P.Probes.lent l.fn.probes;
     }
 
 abbrev pub decreases-loop-harts : goal.decreases-loop-harts
