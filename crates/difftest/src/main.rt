@@ -17,8 +17,11 @@ fn main(rt: HostRuntime) -> ExitCode {
 
 fn run<R: Env + Files + Print + AllocGlobal>(rt: &R) -> u8 {
     let mut out = StdSink::new(io::writer(rt));
-    let Ok(words) = words_of(rt) else {
-        return without_memory(&mut out);
+    let words = match words_of(rt) {
+        Ok(words) => words,
+        Err(e) if e.kind() == io::ErrorKind::OutOfMemory => return without_memory(&mut out),
+        // A word that is not UTF-8 is in no table of words, and neither are no words at all.
+        Err(_) => Vec::new(rt.alloc()),
     };
     match parse_words(rt.alloc(), words.as_slice()) {
         Ok(command) => {

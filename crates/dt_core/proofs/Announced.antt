@@ -16,7 +16,7 @@ use Rattle.dt_record.specs.declared.writes.Note.TheVariants.{Wrote, Mark, End, C
 use Rattle.dt_record.specs.Keys.{records_of}
 use Rattle.dt_record.specs.Writes.{body_write, write_of_record, counted, writes_after}
 use Rattle.dt_core.specs.Notes.{write_in, announced, hart_writes, writes_below}
-use Rattle.dt_core.specs.Marks.{stamp_in, ends, marks_of, mark_of, has_ended}
+use Rattle.dt_record.specs.Marks.{stamp_in, ends, marks_of, mark_of, has_ended}
 use Rattle.dt_core.specs.Sound.{IsAnnounced, writes_by}
 use Rattle.dt_core.proofs.Selection.{filter-pass, filter-drop, filter-narrow, filter-empty}
 

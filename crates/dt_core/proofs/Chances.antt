@@ -9,7 +9,8 @@ use Rattle.dt_record.specs.Writes.{by_key}
 use Rattle.dt_versions.specs.History.{writes_until}
 use Rattle.dt_core.specs.Judgements.{Meaning, AreJudged, failure_from}
 use Rattle.dt_core.specs.Machine.{usable_below, usable, has_failed}
-use Rattle.dt_core.specs.Marks.{mark_of, has_ended, least_with, least_mark, CanJudge, can_judge}
+use Rattle.dt_record.specs.Marks.{mark_of, has_ended}
+use Rattle.dt_core.specs.Marks.{least_with, least_mark, CanJudge, can_judge}
 use Rattle.dt_core.specs.Notes.{announced}
 use Rattle.dt_core.proofs.Selection.{filter-narrow}
 

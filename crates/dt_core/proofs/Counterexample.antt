@@ -12,7 +12,7 @@ use Rattle.dt_record.specs.ProbeFile.{AreRecords, no_stamps}
 use Rattle.dt_record.specs.Writes.{by_key, writes_of}
 use Rattle.dt_versions.specs.History.{writes_until}
 use Rattle.dt_core.specs.Laws.{WritesUntilMarkAreAll, EqualMarkIsEnough}
-use Rattle.dt_core.specs.Marks.{mark_of, has_ended}
+use Rattle.dt_record.specs.Marks.{mark_of, has_ended}
 use Rattle.dt_core.specs.Notes.{announced, hart_writes, writes_below}
 use Rattle.dt_core.specs.Sound.{Lists, IsSound, writes_by}
 use Rattle.dt_core.proofs.Places.{push-split, not_last}

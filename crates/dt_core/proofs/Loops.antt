@@ -10,7 +10,8 @@ use Rattle.dt_record.specs.declared.writes.Write.{Write}
 use Rattle.dt_record.specs.declared.writes.Note.{Note}
 use Rattle.dt_record.specs.Keys.{key_below}
 use Rattle.dt_record.specs.Writes.{insert_write, write_of_record, counted, writes_after}
-use Rattle.dt_core.specs.Marks.{stamp_in, marks_of, mark_of, mark_with}
+use Rattle.dt_record.specs.Marks.{stamp_in, marks_of, mark_of}
+use Rattle.dt_core.specs.Marks.{mark_with}
 use Rattle.dt_core.specs.declared.entries.Entry.{Entry}
 use Rattle.dt_core.specs.Machine.{HartState, take_first, take_of, is_mine, news_of, told}
 use Rattle.dt_core.specs.Notes.{notes_in, entries_of}

@@ -12,7 +12,8 @@ use Rattle.dt_record.specs.ProbeFile.{AreRecords, no_stamps, stamped}
 use Rattle.dt_record.specs.Writes.{no_records, writes_after, by_key, writes_of}
 use Rattle.dt_versions.specs.History.{writes_until}
 use Rattle.dt_core.specs.Notes.{announced, hart_writes, writes_below}
-use Rattle.dt_core.specs.Marks.{mark_of, has_ended, least_with, least_mark}
+use Rattle.dt_record.specs.Marks.{mark_of, has_ended}
+use Rattle.dt_core.specs.Marks.{least_with, least_mark}
 use Rattle.dt_core.specs.Sound.{Lists, IsSound, writes_by}
 use Rattle.dt_core.specs.Laws.{HoldsBelow, WritesBelowMarkAreAll, WritesUntilJudgedAreAll}
 use Rattle.dt_core.proofs.Selection.{filter-drop, filter-both}

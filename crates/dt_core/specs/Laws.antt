@@ -7,7 +7,8 @@ use Rattle.dt_record.specs.declared.writes.Note.{Note}
 use Rattle.dt_record.specs.ProbeFile.{AreRecords, no_stamps}
 use Rattle.dt_record.specs.Writes.{by_key, writes_of}
 use Rattle.dt_versions.specs.History.{writes_until}
-use Rattle.dt_core.specs.Marks.{mark_of, has_ended, least_mark, CanJudge}
+use Rattle.dt_record.specs.Marks.{mark_of, has_ended}
+use Rattle.dt_core.specs.Marks.{least_mark, CanJudge}
 use Rattle.dt_core.specs.Notes.{announced, writes_below}
 use Rattle.dt_core.specs.Sound.{Lists, IsSound}
 

@@ -53,7 +53,7 @@ impl Local {
         self.slots.get(&addr).copied().flatten()
     }
 
-    /// Makes room for one note of these bytes of a line.
+    /// Makes room so that the next `note`, of these bytes of a line, takes no memory.
     pub fn reserve(&mut self, line: u64, mask: u64) -> Result<(), AllocError>
         requires { IsTrue (is_ram_line line) }
         ensures reserved { OnOk result (self.new ≡ record self.old { reserved = Some (reserved_at line mask) }) }
@@ -64,7 +64,7 @@ impl Local {
         Ok(())
     }
 
-    /// Keeps for each byte of the mask the greater of its key and the given one.
+    /// Notes a key for each byte of the mask, where it is above the one that is noted.
     pub fn note(&mut self, line: u64, mask: u64, keys: &[Key; 64])
         requires { self.old.reserved ≡ Some (reserved_at line mask) }
         ensures noted { (addr : ℕ) → newest_of self.new addr ≡ greater (newest_of self.old addr) (noted_key line mask keys.now addr) }

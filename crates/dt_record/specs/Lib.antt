@@ -5,6 +5,7 @@ pub mod KeyLaws
 pub mod Keys
 pub mod Lawful
 pub mod LoadSources
+pub mod Marks
 pub mod Memory
 pub mod ProbeFile
 pub mod Reasons

@@ -2,7 +2,7 @@ use Rattle.std.specs.Prelude.{ℕ, List, codes}
 use Rattle.dt_record.specs.declared.reasons.Reason.{Reason}
 use Rattle.dt_record.specs.declared.reasons.Reason.TheVariants.{Pc, Fetch, Raises, Kind, Cause, Tval, Interrupt, Value, Address, StoreData, Order, LoadSource, Adopt, Counter, Undrained, AtomicValue, AtomicWrite, Refill, ScSuccess, DrainCount, DrainData, Barrier, State}
 
--- the number of a reason (this project's own), which is also the order of the checks
+-- the number of a reason, as reports print it (this project's own)
 abbrev pub reason_number : Reason → ℕ
 reason_number Pc = 1
 reason_number Fetch = 2

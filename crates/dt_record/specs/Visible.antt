@@ -15,7 +15,7 @@ abbrev pub cannot_see : Key → ℕ → Write → Bool
 cannot_see key at w = nat_lt at w.key.stamp || ((w.key.hart == key.hart) && key_below key w.key)
 
 -- A moment is visible where the first k writes hold all that have to be seen and none that cannot be.
--- So a write of another hart in the same cycle may be seen or not.
+-- Another hart's write of that very cycle may go either way.
 pub record IsVisible (writes : List Write) (key : Key) (at k : ℕ) : Type 0 where
   pub within : k ≤ length writes
   pub seen : IsTrue (list_all (λ w. not (cannot_see key at w)) (take k writes))

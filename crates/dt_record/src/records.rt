@@ -14,7 +14,7 @@ pub struct Record {
 #[derive(Clone, Copy, Debug, PartialEq, Eq)]
 pub struct Retire {
     pub pc: u64,
-    /// The instruction as fetched. A 16-bit instruction has its upper half zero.
+    /// The instruction as fetched; above a 16-bit one stand zeros.
     pub bits: u32,
     /// What the instruction gave: each kind of record says what that is.
     pub value: u64,
@@ -28,8 +28,8 @@ pub enum Body {
     Commit {
         retire: Retire,
     },
-    /// `bits` is 0 for an interrupt. For causes 1 and 12 it is 0 where the fault is on the first
-    /// halfword, and the first halfword where the fault is on the second.
+    /// `bits` is the instruction that trapped, and 0 for an interrupt. Where its fetch failed (causes
+    /// 1 and 12) it is what was fetched before the fault: 0, or the first halfword.
     Trap {
         pc: u64,
         bits: u32,
@@ -47,8 +47,8 @@ pub enum Body {
         mode: u8,
         v: [u64; 17],
     },
-    /// `value` is the extended loaded value, whatever rd is. `at` is the cycle in which the load
-    /// was performed.
+    /// `value` is what was loaded, extended to 64 bits, also where rd is x0. `at` is the cycle in
+    /// which the load read its bytes.
     Load {
         retire: Retire,
         at: u64,
@@ -61,8 +61,8 @@ pub enum Body {
         paddr: u64,
         value: u64,
     },
-    /// `value` is the old value, extended (LR, AMO), or the result of SC, whatever rd is. `new` is
-    /// the value written, and 0 where nothing was written.
+    /// `value` is what an LR or AMO read, sign-extended, or what an SC gave, also where rd is x0.
+    /// `new` is what was written to memory, and 0 with `wrote` false.
     Atomic {
         retire: Retire,
         paddr: u64,

@@ -14,7 +14,8 @@ use Rattle.dt_shared.specs.declared.entries.Entry.{Entry}
 use Rattle.dt_shared.specs.declared.progress.Progress.{Progress}
 use Rattle.dt_shared.specs.declared.progress.Progress.TheVariants.{At, Ended}
 use Rattle.dt_shared.specs.Entries.{notes_in}
-use Rattle.dt_shared.specs.Marks.{stamp_in, ends, marks_of, mark_of, has_ended, IsLeastMark}
+use Rattle.dt_record.specs.Marks.{stamp_in, ends, marks_of, mark_of, has_ended}
+use Rattle.dt_shared.specs.Marks.{IsLeastMark}
 use Rattle.dt_shared.specs.Replicas.{progress_of, Follows, marked_at, lower_of, IsNamed, followed}
 
 last_snoc : (xs : List ℕ) (x : ℕ) → get_or (xs ++ x ∷ []) (length (xs ++ x ∷ []) - 1) 0 ≡ x

@@ -4,7 +4,7 @@ use Rattle.dt_record.specs.declared.writes.Note.{Note}
 use Rattle.dt_record.specs.declared.writes.Note.TheVariants.{Mark, End}
 use Rattle.dt_shared.specs.declared.progress.Progress.{Progress}
 use Rattle.dt_shared.specs.declared.progress.Progress.TheVariants.{At, Ended}
-use Rattle.dt_shared.specs.Marks.{mark_of, has_ended}
+use Rattle.dt_record.specs.Marks.{mark_of, has_ended}
 
 pub record ReplicaState : Type 0 where
   pub harts : ℕ  -- how many harts there are

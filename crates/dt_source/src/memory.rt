@@ -23,8 +23,8 @@ fn give(bytes: &[u8], most: usize, buf: &mut [u8]) -> usize
     count
 }
 
-/// Bytes in memory. A call gives at most `piece` of them, and at least one; the calls whose
-/// numbers, from 0, are in `fail` fail.
+/// Bytes in memory. A call gives at most `piece` of them, and at least one. `fail` lists the calls
+/// that fail, by their numbers from 0.
 #[derive(Debug, Drop)]
 pub struct MemSource {
     bytes: Vec<u8>,
@@ -145,7 +145,7 @@ impl Source for CalmSource {
 }
 
 /// Bytes that were written to memory. A sink takes as many as it still has room for; a call to a
-/// full one fails, and so do the calls whose numbers, from 0, are in `fail`.
+/// full one fails, and so do those in `fail`, which are numbered from 0.
 #[derive(Debug, Drop)]
 pub struct MemSink {
     bytes: Vec<u8>,

@@ -1,5 +1,5 @@
 //! Memory over time: which byte each moment holds, where it comes from, and which moments a record
-//! may see. A moment is the number of first writes that have happened.
+//! may see. A moment says how many writes have happened, in the order of their keys.
 #![tactic(auto)]
 
 mod laws;

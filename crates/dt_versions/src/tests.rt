@@ -84,7 +84,7 @@ fn moments_hold_bytes_and_sources(rt: HostRuntime) -> Result<(), Fail> {
 fn records_see_moments(rt: HostRuntime) -> Result<(), Fail> {
     let moments = made(&rt, rt.alloc())?;
     for (reader, at, first, last) in [
-        // A write of another hart in the same cycle may be seen or not.
+        // Another hart's write of that very cycle may go either way.
         (key(10, 2, 0), 10, 0, 2),
         (key(12, 2, 0), 12, 2, 3),
         (key(12, 2, 0), 11, 2, 2),

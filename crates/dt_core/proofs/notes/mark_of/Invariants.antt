@@ -1,5 +1,5 @@
 use Rattle.std.proofs.Common.{◌≡◌, take}
-use Rattle.dt_core.specs.Marks.{mark_of}
+use Rattle.dt_record.specs.Marks.{mark_of}
 use Rattle.dt_core.proofs.notes.mark_of.Given as goal
 
 -- the mark by the notes so far
