@@ -13,7 +13,7 @@ use Rattle.dt_dump.specs.Dump.{AppendsPart, IsCutShort, dump_text, last_status, 
 use Rattle.dt_convert.specs.Convert.{converted}
 use Rattle.dt_verdict.specs.declared.answers.Refusal.{Refusal}
 use Rattle.dt_verdict.specs.declared.answers.Refusal.TheVariants as refusal
-use Rattle.dt_words.specs.declared.commands.Task.TheVariants.{Dump, Convert}
+use Rattle.dt_words.specs.declared.commands.Task.TheVariants.{Pass, Dump, Convert}
 use Rattle.dt_words.specs.Table.{Asked}
 use Rattle.dt_pass.specs.Reading.{refusal_in}
 use Rattle.dt_top.specs.Answer.{answer, refusal_of, refusal_status, version_named, EndsAtLimit, EndsMalformed, IsAnswer, StopsWith, WhereTold}
@@ -35,6 +35,7 @@ pub record Streamed (told : Option (List Next)) (last_answer : Option Next) (tex
 
 -- what the words of such a task mean
 pub record IsFileTask (asked : Asked) (probes : Option (List ℕ)) (text_of : List Next → List ℕ) (cut : List ℕ → Option (List Next) → List ℕ → Type 0) : Type 0 where
+  pub is_no_check : asked.task ≡ Pass → ⊥
   pub is_answer : (i b : List ℕ) (status : ℕ) (text : List ℕ) → status ≡ stream_status (answers_of b) → text ≡ text_of (answers_of b) → IsAnswer (Some asked) i b (answer status text)
   pub stops : (line text : List ℕ) → cut line (option_map answers_of probes) text → StopsWith line (Some asked) probes text
 
@@ -113,6 +114,7 @@ ran_of_stream asked image probes image_old image_new probes_old probes_new out_o
   usage = λ two. absurd (not_status ended status 2 last_is_not_2 (s.ended (λ e. cc) (λ e. cc)) two);
   usage_comes = λ none. cc;
   too_long = λ three. absurd (not_status ended status 3 last_is_not_3 (s.ended (λ e. cc) (λ e. cc)) three);
+  too_long_comes = λ asks. absurd (task.is_no_check asks);
   malformed = λ four. (
     refl,
     of_bytes probes (λ answers. (status ≡ stream_status answers) × Appends before (text_of answers) after) EndsMalformed (s.whole (λ e. cc) (λ e. cc) (λ e. cc))
@@ -123,6 +125,7 @@ ran_of_stream asked image probes image_old image_new probes_old probes_new out_o
     of_bytes probes (λ answers. (status ≡ stream_status answers) × Appends before (text_of answers) after) EndsAtLimit (s.whole (λ e. cc) (λ e. cc) (λ e. cc))
         (λ b h. limit_end (answers_of b) (sym h.0 ∙ eight)),
   );
+  refused_line = λ asks. absurd (task.is_no_check asks);
   refused_comes = λ r asks found three five six seven.
       refused_told probes (λ answers. Appends before (text_of answers) after) status r (s.whole five six seven) found;
   read_fault = λ five.
@@ -159,6 +162,7 @@ same_answer status text_status text other a b = ap (λ n. answer n text) a ∙ a
 
 pub dump_task : (asked : Asked) (probes : Option (List ℕ)) → asked.task ≡ Dump → IsFileTask asked probes dump_text dump_cut
 dump_task asked probes is = record {
+  is_no_check = λ pass. not_dump asked.task pass is;
   is_answer = λ i b status text a t. record {
     usage = λ none. cc;
     too_long = λ other. absurd (not_dump asked.task other is);
@@ -172,6 +176,7 @@ dump_task asked probes is = record {
 
 pub convert_task : (asked : Asked) (probes : Option (List ℕ)) → asked.task ≡ Convert → IsFileTask asked probes (converted (version_named asked.to)) convert_cut
 convert_task asked probes is = record {
+  is_no_check = λ pass. not_convert asked.task pass is;
   is_answer = λ i b status text a t. record {
     usage = λ none. cc;
     too_long = λ other. absurd (not_convert asked.task other is);

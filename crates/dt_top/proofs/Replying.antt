@@ -18,7 +18,7 @@ use Rattle.dt_words.specs.declared.commands.Task.TheVariants as tasks
 use Rattle.dt_words.specs.Table.{Asked}
 use Rattle.dt_top.specs.declared.replies.Reply.{Reply}
 use Rattle.dt_top.specs.declared.replies.Reply.TheVariants as reply
-use Rattle.dt_top.specs.Answer.{Answer, answer, verdict_status, usage_answer, too_long_answer, image_fault_answer, memory_answer, refusal_answer, refusal_line, refusal_of, refusal_status, IsAnswer, IsReport, IsTooLong, MayWrite, WhereTold}
+use Rattle.dt_top.specs.Answer.{Answer, answer, verdict_status, usage_answer, too_long_answer, image_fault_answer, memory_answer, refusal_answer, refusal_line, refusal_of, refusal_status, AsksFor, IsAnswer, IsReport, IsTooLong, MayWrite, WhereTold}
 use Rattle.dt_top.specs.Replies.{answer_by, CameOf, IsPassReply}
 use Rattle.dt_top.specs.Running.{IsPut, Ran}
 use Rattle.dt_top.proofs.Tasks.{both_told, either, not_dump, not_convert, some_map, where_map, where_pass}
@@ -124,6 +124,9 @@ may_write asked image probes image_old image_new probes_old probes_new a came =
           ]
     ]
 
+not_six : {status : ℕ} → (status ≡ 4) ⊎ (status ≡ 8) → status ≢ 6
+not_six refused = λ six. either refused (λ e. cc) (λ e. cc)
+
 pub ran_of_reply : (asked : Option Asked) (image probes : Option (List ℕ)) (image_old image_new probes_old probes_new out_old out_new : ℕ) (before after : Option (List ℕ)) (a : Answer) (status : ℕ)
     → CameOf asked image probes image_old image_new probes_old probes_new a
     → IsPut a out_old out_new before after status
@@ -145,8 +148,18 @@ ran_of_reply asked image probes image_old image_new probes_old probes_new out_ol
       let w = put.whole (λ e. cc) in
       let t = came.too_long (sym w.0 ∙ three) in
       (t.0, t.1, subst (λ (text : List ℕ). Appends before text after) t.2 w.1);
+  too_long_comes = λ asks long five six seven.
+      let w = put.whole six in
+      w.0 ∙ came.too_long_comes asks long (λ e. five (w.0 ∙ e)) (λ e. seven (w.0 ∙ e));
   malformed = λ four. let w = put.whole (λ e. cc) in came.malformed (sym w.0 ∙ four);
   limit = λ eight. let w = put.whole (λ e. cc) in came.limit (sym w.0 ∙ eight);
+  refused_line = λ asks refused.
+      let w = put.whole (not_six refused) in (
+        a.text,
+        subst (λ (n : ℕ). IfSome probes (λ b. IsSomeAnd (refusal_of b) (λ r. answer n a.text ≡ refusal_answer r))) (sym w.0)
+            (came.refused_line asks (subst (λ (n : ℕ). (n ≡ 4) ⊎ (n ≡ 8)) w.0 refused)),
+        w.1,
+      );
   refused_comes = λ r asks found three five six seven.
       let w = put.whole six in
       w.0 ∙ came.refused_comes r asks found (λ e. three (w.0 ∙ e)) (λ e. five (w.0 ∙ e)) (λ e. seven (w.0 ∙ e));
@@ -168,14 +181,20 @@ asks_nothing : (asked : Option Asked) → asked ≡ None → IsSome asked → �
 asks_nothing None none asks = cc
 asks_nothing (Some q) none asks = cc
 
+asks_no_check : (asked : Option Asked) → asked ≡ None → AsksFor tasks.Pass asked → ⊥
+asks_no_check None none asks = absurd asks
+asks_no_check (Some q) none asks = cc
+
 pub of_usage : (asked : Option Asked) (image probes : Option (List ℕ)) (image_old image_new probes_old probes_new : ℕ) → asked ≡ None → CameOf asked image probes image_old image_new probes_old probes_new usage_answer
 of_usage asked image probes image_old image_new probes_old probes_new none = record {
   own = λ _ _. subst (λ (q : Option Asked). WhereTold q image probes (λ i b. IsAnswer q i b usage_answer)) (sym none) (λ i b. usage_is_answer i b);
   usage = λ _. (none, refl);
   usage_comes = λ _ _. refl;
   too_long = λ e. cc;
+  too_long_comes = λ asks. absurd (asks_no_check asked none asks);
   malformed = λ e. cc;
   limit = λ e. cc;
+  refused_line = λ asks. absurd (asks_no_check asked none asks);
   refused_comes = λ r asks. absurd (asks_nothing asked none asks);
   read_fault = λ e. cc;
   memory = λ e. cc;
@@ -187,8 +206,10 @@ of_memory asked image probes image_old image_new probes_old probes_new = record 
   usage = λ e. cc;
   usage_comes = λ _ seven. absurd (seven refl);
   too_long = λ e. cc;
+  too_long_comes = λ asks long five seven. absurd (seven refl);
   malformed = λ e. cc;
   limit = λ e. cc;
+  refused_line = λ asks refused. absurd (either refused (λ e. cc) (λ e. cc));
   refused_comes = λ r asks found three five seven. absurd (seven refl);
   read_fault = λ e. cc;
   memory = λ _. refl;
@@ -201,8 +222,10 @@ of_image_fault asked image probes image_old image_new probes_old probes_new is r
   usage = λ e. cc;
   usage_comes = λ none. cc;
   too_long = λ e. cc;
+  too_long_comes = λ asks long five. absurd (five refl);
   malformed = λ e. cc;
   limit = λ e. cc;
+  refused_line = λ asks refused. absurd (either refused (λ e. cc) (λ e. cc));
   refused_comes = λ r asks found three five. absurd (five refl);
   read_fault = λ _. inl (rose, is, refl);
   memory = λ e. cc;
@@ -228,8 +251,10 @@ of_too_long asked image probes image_old image_new probes_old probes_new is told
   usage = λ e. cc;
   usage_comes = λ none. cc;
   too_long = λ _. (is, some_map image _ _ told (λ i e. long i e), refl);
+  too_long_comes = λ _ _ _ _. refl;
   malformed = λ e. cc;
   limit = λ e. cc;
+  refused_line = λ asks refused. absurd (either refused (λ e. cc) (λ e. cc));
   refused_comes = λ r asks found three. absurd (three refl);
   read_fault = λ e. cc;
   memory = λ e. cc;
@@ -252,6 +277,16 @@ no_refusal : (probes : Option (List ℕ)) (P : List ℕ → Type 0) (s : Refusal
 no_refusal None P s told found = absurd found
 no_refusal (Some b) P s told found = let e = sym told.0 ∙ found in cc
 
+is_not_longer : (i : List ℕ) (image : Option (List ℕ)) → length i ≤ 16777216 → IfSome image (λ bytes. bytes ≡ i) → IsSomeAnd image IsTooLong → ⊥
+is_not_longer i None fits known longer = absurd longer
+is_not_longer i (Some bytes) fits known longer = omega (arith, fits, longer, ap length known)
+
+not_five : {status : ℕ} → (status ≡ 4) ⊎ (status ≡ 8) → status ≢ 5
+not_five refused = λ five. either refused (λ e. cc) (λ e. cc)
+
+not_seven : {status : ℕ} → (status ≡ 4) ⊎ (status ≡ 8) → status ≢ 7
+not_seven refused = λ seven. either refused (λ e. cc) (λ e. cc)
+
 of_refusal : (asked : Asked) (i : List ℕ) (image probes : Option (List ℕ)) (image_old image_new probes_old probes_new : ℕ) (r : Refusal) (line : List ℕ) → asked.task ≡ tasks.Pass
     → length i ≤ 16777216 → IfSome image (λ bytes. bytes ≡ i)
     → line ≡ refusal_line r → (r ≡ ReadFault → Rose probes_old probes_new) → (r ≢ ReadFault → r ≢ OutOfMemory → IfSome probes (λ b. refusal_of b ≡ Some r))
@@ -264,12 +299,15 @@ of_refusal asked i image probes image_old image_new probes_old probes_new r line
   usage = λ two. absurd (omega (arith, refusal_is_great r, two));
   usage_comes = λ none. cc;
   too_long = λ three. absurd (omega (arith, refusal_is_great r, three));
+  too_long_comes = λ asks longer. absurd (is_not_longer i image fits known longer);
   malformed = λ four.
       let m = at_4 r four in
       (refl, some_map probes _ _ (told (λ e. cc) (λ e. cc)) (λ b found. (m.0, found ∙ ap (λ (x : Refusal). Some x) m.1)));
   limit = λ eight.
       let m = at_8 r eight in
       (refl, some_map probes _ _ (told (λ e. cc) (λ e. cc)) (λ b found. (m.0, m.1, found ∙ ap (λ (x : Refusal). Some x) m.2)));
+  refused_line = λ asks refused. some_map probes _ _ (told (λ e. not_five refused (ap refusal_status e)) (λ e. not_seven refused (ap refusal_status e)))
+      (λ b found. subst (λ (x : Option Refusal). IsSomeAnd x (λ s. answer (refusal_status r) line ≡ refusal_answer s)) (sym found) (ap (λ t. answer (refusal_status r) t) written));
   refused_comes = λ s asks found three five seven.
       ap refusal_status (one_refusal probes r s (told (λ e. five (ap refusal_status e)) (λ e. seven (ap refusal_status e))) found);
   read_fault = λ five. let e = at_5 r five in inr (fault e, written ∙ ap refusal_line e);
@@ -288,8 +326,10 @@ of_report asked i image probes image_old image_new probes_old probes_new v text 
   usage = λ e. absurd (omega (arith, verdict_is_small v, e));
   usage_comes = λ none. cc;
   too_long = λ e. absurd (omega (arith, verdict_is_small v, e));
+  too_long_comes = λ asks longer. absurd (is_not_longer i image fits known longer);
   malformed = λ e. absurd (omega (arith, verdict_is_small v, e));
   limit = λ e. absurd (omega (arith, verdict_is_small v, e));
+  refused_line = λ asks refused. absurd (either refused (λ e. omega (arith, verdict_is_small v, e)) (λ e. omega (arith, verdict_is_small v, e)));
   refused_comes = λ s asks found. absurd (no_refusal probes _ s told found);
   read_fault = λ e. absurd (omega (arith, verdict_is_small v, e));
   memory = λ e. absurd (omega (arith, verdict_is_small v, e));

@@ -11,7 +11,7 @@ use Rattle.dt_words.specs.declared.commands.Task.TheVariants.{Pass}
 use Rattle.dt_words.specs.Table.{Asked}
 use Rattle.dt_top.specs.declared.replies.Reply.{Reply}
 use Rattle.dt_top.specs.declared.replies.Reply.TheVariants.{Usage, TooLong, ReadFaultImage, Refused, Report, OutOfMemory}
-use Rattle.dt_top.specs.Answer.{Answer, answer, verdict_status, usage_answer, image_fault_answer, memory_answer, too_long_answer, refusal_of, refusal_status, refusal_line, AsksFor, IsAnswer, IsReport, IsTooLong, WhereTold, EndsMalformed, EndsAtLimit}
+use Rattle.dt_top.specs.Answer.{Answer, answer, verdict_status, usage_answer, image_fault_answer, memory_answer, too_long_answer, refusal_answer, refusal_of, refusal_status, refusal_line, AsksFor, IsAnswer, IsReport, IsTooLong, WhereTold, EndsMalformed, EndsAtLimit}
 
 -- the status and the text of a reply
 abbrev pub answer_by : Reply → Answer
@@ -51,8 +51,10 @@ pub record CameOf (asked : Option Asked) (image probes : Option (List ℕ)) (ima
   pub usage : a.status ≡ 2 → (asked ≡ None) × (a.text ≡ usage_answer.text)
   pub usage_comes : asked ≡ None → a.status ≢ 7 → a.status ≡ 2
   pub too_long : a.status ≡ 3 → AsksFor Pass asked × IfSome image IsTooLong × (a.text ≡ too_long_answer.text)
+  pub too_long_comes : AsksFor Pass asked → IsSomeAnd image IsTooLong → a.status ≢ 5 → a.status ≢ 7 → a.status ≡ 3
   pub malformed : a.status ≡ 4 → IsSome asked × IfSome probes EndsMalformed
   pub limit : a.status ≡ 8 → IsSome asked × IfSome probes EndsAtLimit
+  pub refused_line : AsksFor Pass asked → (a.status ≡ 4) ⊎ (a.status ≡ 8) → IfSome probes (λ b. IsSomeAnd (refusal_of b) (λ r. a ≡ refusal_answer r))
   pub refused_comes : (r : Refusal) → IsSome asked → IsSomeAnd probes (λ b. refusal_of b ≡ Some r)
       → a.status ≢ 3 → a.status ≢ 5 → a.status ≢ 7 → a.status ≡ refusal_status r
   pub read_fault : a.status ≡ 5

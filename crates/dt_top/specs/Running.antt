@@ -6,7 +6,7 @@ use Rattle.dt_dump.specs.Dump.{AppendsPart, memory_line, read_fault_line}
 use Rattle.dt_verdict.specs.declared.answers.Refusal.{Refusal}
 use Rattle.dt_words.specs.declared.commands.Task.TheVariants.{Pass}
 use Rattle.dt_words.specs.Table.{Asked}
-use Rattle.dt_top.specs.Answer.{Answer, answer, usage_answer, too_long_answer, image_fault_answer, refusal_of, refusal_status, AsksFor, IsAnswer, IsTooLong, WhereTold, EndsMalformed, EndsAtLimit, StopsWith, MayWrite}
+use Rattle.dt_top.specs.Answer.{Answer, answer, usage_answer, too_long_answer, image_fault_answer, refusal_answer, refusal_of, refusal_status, AsksFor, IsAnswer, IsTooLong, WhereTold, EndsMalformed, EndsAtLimit, StopsWith, MayWrite}
 
 -- what was written of an answer, and the exit status; 6 where a write failed
 pub record IsPut (a : Answer) (out_old out_new : ℕ) (before after : Option (List ℕ)) (status : ℕ) : Type 0 where
@@ -20,8 +20,11 @@ pub record Ran (asked : Option Asked) (image probes : Option (List ℕ)) (image_
   pub usage : status ≡ 2 → (asked ≡ None) × Appends before usage_answer.text after
   pub usage_comes : asked ≡ None → status ≢ 6 → status ≢ 7 → status ≡ 2
   pub too_long : status ≡ 3 → AsksFor Pass asked × IfSome image IsTooLong × Appends before too_long_answer.text after
+  pub too_long_comes : AsksFor Pass asked → IsSomeAnd image IsTooLong → status ≢ 5 → status ≢ 6 → status ≢ 7 → status ≡ 3
   pub malformed : status ≡ 4 → IsSome asked × IfSome probes EndsMalformed
   pub limit : status ≡ 8 → IsSome asked × IfSome probes EndsAtLimit
+  pub refused_line : AsksFor Pass asked → (status ≡ 4) ⊎ (status ≡ 8) → (text : List ℕ)
+      × IfSome probes (λ b. IsSomeAnd (refusal_of b) (λ r. answer status text ≡ refusal_answer r)) × Appends before text after
   pub refused_comes : (r : Refusal) → IsSome asked → IsSomeAnd probes (λ b. refusal_of b ≡ Some r)
       → status ≢ 3 → status ≢ 5 → status ≢ 6 → status ≢ 7 → status ≡ refusal_status r
   pub read_fault : status ≡ 5

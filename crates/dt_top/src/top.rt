@@ -5,7 +5,7 @@ ghost use Rattle.dt_source.specs.Known.{Appends};
 ghost use Rattle.dt_dump.specs.Dump.{AppendsPart, memory_line, read_fault_line};
 ghost use Rattle.dt_words.specs.declared.commands.Task.TheVariants.{Pass};
 ghost use Rattle.dt_words.specs.Table.{asked_of};
-ghost use Rattle.dt_top.specs.Answer.{AsksFor, EndsAtLimit, EndsMalformed, IsAnswer, IsTooLong, MayWrite, StopsWith, WhereTold, answer, image_fault_answer, too_long_answer, usage_answer};
+ghost use Rattle.dt_top.specs.Answer.{AsksFor, EndsAtLimit, EndsMalformed, IsAnswer, IsTooLong, MayWrite, StopsWith, WhereTold, answer, image_fault_answer, refusal_answer, refusal_of, too_long_answer, usage_answer};
 ghost use Rattle.dt_top.specs.Running.{Ran};
 
 use crate::replies::Reply;
@@ -50,6 +50,8 @@ pub fn run_plain<I: Source, P: Source, O: Sink>(
     ensures too_long { result ≡ 3 → AsksFor Pass (asked_of (map string_bytes words.now))
         × IfSome (I.left image.old) IsTooLong
         × Appends (O.written out.old) too_long_answer.text (O.written out.new) }
+    ensures too_long_comes { AsksFor Pass (asked_of (map string_bytes words.now)) → IsSomeAnd (I.left image.old) IsTooLong
+        → result ≢ 5 → result ≢ 6 → result ≢ 7 → result ≡ 3 }
     ensures malformed { result ≡ 4 → IsSome (asked_of (map string_bytes words.now))
         × IfSome (P.left probes.old) EndsMalformed }
     ensures malformed_comes { IsSome (asked_of (map string_bytes words.now)) → IsSomeAnd (P.left probes.old) EndsMalformed
@@ -58,6 +60,10 @@ pub fn run_plain<I: Source, P: Source, O: Sink>(
         × IfSome (P.left probes.old) EndsAtLimit }
     ensures limit_comes { IsSome (asked_of (map string_bytes words.now)) → IsSomeAnd (P.left probes.old) EndsAtLimit
         → result ≢ 3 → result ≢ 5 → result ≢ 6 → result ≢ 7 → result ≡ 8 }
+    ensures refused_line { AsksFor Pass (asked_of (map string_bytes words.now)) → (result ≡ 4) ⊎ (result ≡ 8)
+        → (text : List ℕ)
+        × IfSome (P.left probes.old) (λ b. IsSomeAnd (refusal_of b) (λ r. answer result text ≡ refusal_answer r))
+        × Appends (O.written out.old) text (O.written out.new) }
     ensures read_fault { result ≡ 5
         → (Rose (I.faults image.old) (I.faults image.new) × AsksFor Pass (asked_of (map string_bytes words.now))
         × Appends (O.written out.old) image_fault_answer.text (O.written out.new))
