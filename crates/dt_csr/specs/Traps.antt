@@ -24,7 +24,7 @@ trap_pc vector cause =
     (vector / 4 * 4 + (if (field_of cause INTERRUPT == 1) && (field_of vector VECTORED == 1) then 4 * field_of cause CODE else 0)) % 2 ^ 64
 
 -- is it a cause whose tval is the virtual address of a fetch, load or store: access faults, page faults and addresses
--- that are not aligned (Volume II, section 3.1.15)
+-- that are not aligned (Volume II, section 3.1.16)
 abbrev pub has_address : ℕ → Bool
 has_address cause = list_any (λ known. cause == known) (FETCH_ACCESS ∷ LOAD_MISALIGNED ∷ LOAD_ACCESS ∷ STORE_MISALIGNED ∷ STORE_ACCESS ∷ FETCH_PAGE ∷ LOAD_PAGE ∷ STORE_PAGE ∷ [])
 

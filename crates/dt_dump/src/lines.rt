@@ -1,4 +1,4 @@
-ghost use Rattle.std.specs.Prelude.{◌≡◌, ◌≢◌, ◌<◌, ◌≤◌, ◌+◌, ◌⊎◌, Err, IfOk, OnOk, slice_index, slice_set};
+ghost use Rattle.std.specs.Prelude.{◌≡◌, ◌≢◌, ◌<◌, ◌≤◌, ◌+◌, ◌⊎◌, Err, IfOk, OnErr, OnOk, slice_index, slice_set};
 ghost use Rattle.std.specs.String.{string_bytes};
 ghost use Rattle.dt_source.specs.Faults.{Rose};
 ghost use Rattle.dt_source.specs.Known.{Appends};
@@ -60,6 +60,7 @@ pub fn put_record<O: Sink>(
     ensures memory { result ≡ Err Stop.OutOfMemory → O.written out.new ≡ O.written out.old }
     ensures write_fault { result ≡ Err Stop.WriteFault → Rose (O.faults out.old) (O.faults out.new)
         × AppendsPart (O.written out.old) (line_text (slice_index counts.old event.now.hart) event.now) (O.written out.new) }
+    ensures kept { OnErr result (counts.new ≡ counts.old) }
     ensures never_falls { O.faults out.old ≤ O.faults out.new }
 {
     let hart = usize::from(event.hart);
