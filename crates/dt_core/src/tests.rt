@@ -59,30 +59,6 @@ macro_rules! records {
 
 const TWO_BEATS: [Record; 2] = records![(5, 0, Body::Beat), (5, 1, Body::Beat)];
 
-/// Two writes up to cycle 3. Hart 0: the record of cycle 3 is the fifth of six, and it fails.
-const ONE_HART: [Record; 6] = records![
-    (0, 0, Body::Beat),
-    (1, 0, SWAP),
-    (2, 0, SWAP),
-    (2, 0, Body::Beat),
-    (3, 0, Body::Beat),
-    (4, 0, SWAP)
-];
-
-/// Three writes up to cycle 5, one in each of the cycles 1 to 3. Hart 0: the fifth of six, in cycle
-/// 5, fails. Hart 1: all three pass.
-const IDLE_WORKER: [Record; 9] = records![
-    (1, 1, SWAP),
-    (0, 0, Body::Beat),
-    (1, 0, Body::Beat),
-    (2, 1, Body::Beat),
-    (2, 0, SWAP),
-    (3, 0, Body::Beat),
-    (3, 1, SWAP),
-    (5, 0, Body::Beat),
-    (5, 0, Body::Beat)
-];
-
 /// One write of each hart, in the cycles 1 to 3, and so three up to the cycles 4 and 5. Hart 0: the
 /// third of four, in cycle 4, fails. Hart 1: both pass. Hart 2: the last of four, in cycle 5, fails.
 const THREE_HARTS: [Record; 10] = records![
@@ -115,22 +91,6 @@ const FAILURE_IN_THE_MIDDLE: [Record; 11] = records![
     (4, 1, Body::Beat)
 ];
 
-/// One write in each of the cycles 1 to 4. Hart 0: all five pass. Hart 1: the fifth of six, in
-/// cycle 5, fails.
-const WRITES_OF_BOTH: [Record; 11] = records![
-    (0, 0, Body::Beat),
-    (1, 1, Body::Beat),
-    (1, 0, SWAP),
-    (2, 1, SWAP),
-    (2, 0, Body::Beat),
-    (3, 0, SWAP),
-    (3, 1, Body::Beat),
-    (4, 1, SWAP),
-    (5, 1, Body::Beat),
-    (4, 0, Body::Beat),
-    (5, 1, Body::Beat)
-];
-
 /// No write, so that cycle 0 alone passes.
 const NO_WRITES: [Record; 5] = records![
     (0, 0, Body::Beat),
@@ -143,32 +103,23 @@ const NO_WRITES: [Record; 5] = records![
 #[derive(Clone, Copy, Debug)]
 enum Run {
     TwoBeats,
-    OneHart,
-    IdleWorker,
     ThreeHarts,
     FailureInTheMiddle,
-    WritesOfBoth,
     NoWrites,
 }
 
 /// The runs of the schedules, and how many records of each hart are judged in the end: up to its
 /// failure, and with it.
-const JUDGED: [(Run, [usize; 3]); 5] = [
-    (Run::OneHart, [5, 0, 0]),
-    (Run::IdleWorker, [5, 3, 0]),
+const JUDGED: [(Run, [usize; 3]); 2] = [
     (Run::ThreeHarts, [3, 2, 4]),
     (Run::FailureInTheMiddle, [3, 5, 0]),
-    (Run::WritesOfBoth, [5, 5, 0]),
 ];
 
 fn file_of(run: Run) -> &'static [Record] {
     match run {
         Run::TwoBeats => &TWO_BEATS,
-        Run::OneHart => &ONE_HART,
-        Run::IdleWorker => &IDLE_WORKER,
         Run::ThreeHarts => &THREE_HARTS,
         Run::FailureInTheMiddle => &FAILURE_IN_THE_MIDDLE,
-        Run::WritesOfBoth => &WRITES_OF_BOTH,
         Run::NoWrites => &NO_WRITES,
     }
 }
@@ -176,13 +127,10 @@ fn file_of(run: Run) -> &'static [Record] {
 fn start(alloc: Global, run: Run) -> Result<World<Counted>, AllocError> {
     match run {
         Run::TwoBeats => World::start(alloc, 2, 2, Vec::from_slice(alloc, &TWO_BEATS)?),
-        Run::OneHart => World::start(alloc, 1, 1, Vec::from_slice(alloc, &ONE_HART)?),
-        Run::IdleWorker => World::start(alloc, 2, 3, Vec::from_slice(alloc, &IDLE_WORKER)?),
         Run::ThreeHarts => World::start(alloc, 3, 2, Vec::from_slice(alloc, &THREE_HARTS)?),
         Run::FailureInTheMiddle => {
             World::start(alloc, 2, 2, Vec::from_slice(alloc, &FAILURE_IN_THE_MIDDLE)?)
         }
-        Run::WritesOfBoth => World::start(alloc, 2, 2, Vec::from_slice(alloc, &WRITES_OF_BOTH)?),
         Run::NoWrites => World::start(alloc, 2, 2, Vec::from_slice(alloc, &NO_WRITES)?),
     }
 }

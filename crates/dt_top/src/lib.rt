@@ -2,12 +2,6 @@
 //! `difftest` ends with.
 #![tactic(auto)]
 
-#[cfg(test)]
-mod check_tests;
-#[cfg(test)]
-mod file_tests;
-#[cfg(test)]
-mod limit_tests;
 mod replies;
 mod running;
 #[cfg(test)]

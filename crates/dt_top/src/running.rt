@@ -9,9 +9,8 @@ ghost use Rattle.dt_top.specs.Running.{IsPut, Ran};
 
 use crate::replies::{Reply, check_reply};
 use dt_convert::{FileVersion, convert_probes};
-use dt_dump::{WRITE_FAULT, dump_probes, put_last};
+use dt_dump::{WRITE_FAULT, dump_probes};
 use dt_probe_file::{FileProbes, Room};
-use dt_record::Next;
 use dt_source::{Failed, Sink, Source, write_all};
 use dt_words::{Command, Task};
 use std::alloc::Global;
