@@ -1,0 +1,1 @@
+"""Makes probe files for comparing two checkers of multicore runs."""

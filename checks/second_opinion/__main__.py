@@ -1,0 +1,7 @@
+"""`python3 -m second_opinion pass [--sources] IMAGE PROBES`, from the folder `checks`."""
+
+import sys
+
+from .checker import main
+
+sys.exit(main())
