@@ -163,7 +163,8 @@ def change_count(random, records):
     if place is None:
         return False
     count = records[place].body["count"]
-    _replace(records, place, count=random.choice((count + 1, max(count - 1, 1), 65535, count + 2)))
+    other = random.choice((count + 1, max(count - 1, 1), 65535, count + 2))
+    _replace(records, place, count=min(other, 65535))
     return True
 
 
