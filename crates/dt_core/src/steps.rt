@@ -19,12 +19,14 @@ impl Model for Notes {
 }
 
 impl Notes {
+    /// These notes, in this order.
     pub fn of(notes: Vec<Note>) -> Notes
         ensures { result ≡ notes.items }
     {
         Notes { notes }
     }
 
+    /// The notes in their order.
     pub fn as_slice(&self) -> &[Note]
         ensures { result.now ≡ self.now }
     {

@@ -42,7 +42,8 @@ pub fn load_ask(key: Key, at: u64, paddr: u64, width: u8, value: u64) -> LoadAsk
 }
 
 /// Finds the sources of a load from RAM with this value, sign-extended or zero-extended, for a hart
-/// with these stores and this local memory.
+/// with these stores and this local memory. A misfit is of LoadSource: it expects the value that
+/// the load has at the last moment that it may see, and found is its value.
 pub fn ram_load(
     m: &Moments,
     s: &Stores,

@@ -11,6 +11,7 @@ pub enum DrainAnswer {
     /// A store on another line, before a write-before-write fence, has to drain first. This is the
     /// `seq` of the oldest such.
     Barred { seq: u32 },
+    /// Memory was refused. Nothing is written.
     OutOfMemory,
 }
 
