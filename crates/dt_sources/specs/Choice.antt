@@ -41,7 +41,7 @@ abbrev pub FitsNext : List ℕ → List Write → List Action → (ℕ → ℕ) 
 FitsNext image writes actions moments ask k =
     FitsThere image writes (then_action actions (Loaded ask)) moments (length actions) ask k
 
--- a load is refused exactly where no assignment of all loads up to it fits
+-- some moment fits a next load where it and the loads so far have sources at any moments at all, and only there
 abbrev pub RefusalIsExact : Type 0
 RefusalIsExact = (image : List ℕ) (writes : List Write) (actions : List Action) (moments : ℕ → ℕ) (ask : LoadAsk) → IsTrue (are_in_order writes)
     → ChoosesLeast image writes actions moments

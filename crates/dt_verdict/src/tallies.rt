@@ -3,8 +3,8 @@ ghost use Rattle.std.specs.Prelude.{◌≡◌, ◌≤◌, length};
 use dt_record::{Key, Letters, Sources};
 use std::marker::Model;
 
-/// How many of a hart's records there are, of each kind. On a failure only records with a key below
-/// the failing one are counted.
+/// How many of a hart's records there are, of each kind. Where the check fails, these are the
+/// records that come before the failing one in the order of keys.
 #[derive(Clone, Copy, Debug, Default, PartialEq, Eq)]
 pub struct Counts {
     pub records: u32,
