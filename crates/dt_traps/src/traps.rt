@@ -225,8 +225,8 @@ fn entry(cause: u64, tval: u64, found: Raised) -> Result<Letters, Misfit>
 ///
 /// The first misfit counts: of Pc; of an interrupt Interrupt, which expects the enabled codes as
 /// bits of a mask; of an exception Fetch, with the numbers of `fetched` in dt_checks, and Cause,
-/// which expects the instruction's own cause where it has one, or else the one at the last moment of
-/// the window, or `NO_NUMBER` where there is none; and Tval. Found is what the record says.
+/// which expects the instruction's own cause where it has one, or else the one at the last moment
+/// of the window, or `NO_NUMBER` where there is none; and Tval. Found is what the record says.
 pub fn trap(
     m: &Moments,
     spans: TrapSpans,
