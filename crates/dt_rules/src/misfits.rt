@@ -1,3 +1,6 @@
+ghost use Rattle.std.specs.Prelude.{◌≡◌};
+ghost use Rattle.dt_rules.specs.Checks.{none_left};
+
 use dt_record::{Letters, Origin, Reason, Sources};
 
 /// Why a record is not allowed: the first check that it fails, what that check expected and what it
@@ -28,3 +31,18 @@ pub const NO_SOURCES: Sources = Sources {
     count: 0,
     from: [Origin::Image; 8],
 };
+
+/// Whether no store is left of those that a record waits for. A misfit expects the number of the
+/// oldest among the records of its hart; what it found is for the caller to say.
+pub fn none_left(reason: Reason, oldest: Option<u32>, found: u64) -> Result<(), Misfit>
+    ensures { result ≡ none_left reason oldest found }
+{
+    match oldest {
+        None => Ok(()),
+        Some(oldest) => Err(Misfit {
+            reason,
+            expected: u64::from(oldest),
+            found,
+        }),
+    }
+}

@@ -1,6 +1,6 @@
-use crate::{counter, device, interrupt, pending, sc_live, tval};
+use crate::{Misfit, counter, device, interrupt, none_left, pending, sc_live, tval};
 use dt_csr::Csrs;
-use dt_record::{Image, Key, Write};
+use dt_record::{Image, Key, Reason, Write};
 use dt_versions::Moments;
 use std::test::Fail;
 
@@ -103,4 +103,15 @@ fn another_harts_write_ends_a_reservation(rt: HostRuntime) -> Result<(), Fail> {
     assert!(rt; sc_live(&moments, reserved, LINE, key(9, 1, 6)));
     assert!(rt; sc_live(&moments, Some((LINE, key(6, 0, 4))), LINE, key(15, 0, 6)));
     Ok(())
+}
+
+#[test]
+fn a_store_that_is_left_is_named(rt: HostRuntime) {
+    assert_eq!(rt; none_left(Reason::Undrained, None, 9), Ok(()));
+    let refused = Misfit {
+        reason: Reason::Undrained,
+        expected: 4,
+        found: 9,
+    };
+    assert_eq!(rt; none_left(Reason::Undrained, Some(4), 9), Err(refused));
 }
