@@ -1,4 +1,4 @@
-use Rattle.std.specs.Prelude.{ℕ, Bool, if◌then◌else◌, Option, None, Some, Result, Ok, Err, ⊤}
+use Rattle.std.specs.Prelude.{ℕ, ◌==◌, Bool, if◌then◌else◌, Option, None, Some, List, [], ◌∷◌, Result, Ok, Err, ⊤}
 use Rattle.dt_record.specs.declared.reasons.Reason.{Reason}
 use Rattle.dt_rules.specs.declared.misfits.Misfit.{Misfit}
 
@@ -20,3 +20,9 @@ and_then (Err refused) later = Err refused
 abbrev pub none_left : Reason → (oldest : Option ℕ) → (found : ℕ) → Result ⊤ Misfit
 none_left reason None found = Ok tt
 none_left reason (Some oldest) found = Err (misfit reason oldest found)
+
+-- the numbers are those that are due, else the first two that differ
+abbrev pub first_difference : Reason → (dues found : List ℕ) → Result ⊤ Misfit
+first_difference reason [] found = Ok tt
+first_difference reason (due ∷ dues) [] = Ok tt
+first_difference reason (due ∷ dues) (found ∷ more) = check (due == found) (misfit reason due found) (first_difference reason dues more)

@@ -1,5 +1,5 @@
-ghost use Rattle.std.specs.Prelude.{◌≡◌};
-ghost use Rattle.dt_rules.specs.Checks.{none_left};
+ghost use Rattle.std.specs.Prelude.{◌≡◌, length, IsOk};
+ghost use Rattle.dt_rules.specs.Checks.{first_difference, none_left};
 
 use dt_record::{Letters, Origin, Reason, Sources};
 
@@ -45,4 +45,22 @@ pub fn none_left(reason: Reason, oldest: Option<u32>, found: u64) -> Result<(), 
             found,
         }),
     }
+}
+
+/// Whether bytes are those that are due. A misfit has the first two that differ.
+pub fn same_bytes(reason: Reason, dues: &[u8], found: &[u8]) -> Result<(), Misfit>
+    requires { length dues.now ≡ length found.now }
+    ensures checks { result ≡ first_difference reason dues.now found.now }
+    ensures same { IsOk result → dues.now ≡ found.now }
+{
+    for i in 0..dues.len() {
+        if dues[i] != found[i] {
+            return Err(Misfit {
+                reason,
+                expected: u64::from(dues[i]),
+                found: u64::from(found[i]),
+            });
+        }
+    }
+    Ok(())
 }

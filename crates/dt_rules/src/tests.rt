@@ -1,4 +1,4 @@
-use crate::{Misfit, counter, device, interrupt, none_left, pending, sc_live, tval};
+use crate::{Misfit, counter, device, interrupt, none_left, pending, same_bytes, sc_live, tval};
 use dt_csr::Csrs;
 use dt_record::{Image, Key, Reason, Write};
 use dt_versions::Moments;
@@ -114,4 +114,15 @@ fn a_store_that_is_left_is_named(rt: HostRuntime) {
         found: 9,
     };
     assert_eq!(rt; none_left(Reason::Undrained, Some(4), 9), Err(refused));
+}
+
+#[test]
+fn the_first_bytes_that_differ_are_named(rt: HostRuntime) {
+    assert_eq!(rt; same_bytes(Reason::Refill, &[7, 8, 1], &[7, 8, 1]), Ok(()));
+    let refused = Misfit {
+        reason: Reason::Refill,
+        expected: 8,
+        found: 9,
+    };
+    assert_eq!(rt; same_bytes(Reason::Refill, &[7, 8, 1], &[7, 9, 2]), Err(refused));
 }
