@@ -94,7 +94,8 @@ fn has_newer(l: &Local, ask: LoadAsk, sources: Sources) -> bool
     false
 }
 
-fn is_newer(from: Origin, newest: Option<Key>) -> bool
+/// Whether a byte from here comes from a write that is above the newest key known for the byte.
+pub fn is_newer(from: Origin, newest: Option<Key>) -> bool
     ensures { result ≡ is_newer_than newest from }
 {
     match (from, newest) {
