@@ -9,7 +9,8 @@ ghost use Rattle.dt_drains.specs.Draining.{store_data_check, answer_check, drain
 use dt_rules::{Misfit, Reason, same_bytes};
 use dt_stores::{DrainAnswer, Stores};
 
-/// Whether a store has the low bytes that its instruction stores, with zeros above them.
+/// Whether a store has the low bytes that its instruction stores, with zeros above them. A misfit
+/// is of StoreData and has both numbers.
 pub fn store_data(due: u64, found: u64) -> Result<(), Misfit>
     ensures { result ≡ store_data_check due found }
 {
@@ -23,6 +24,10 @@ pub fn store_data(due: u64, found: u64) -> Result<(), Misfit>
 /// Whether a drain may take the `count` oldest waiting stores of a line, and writes them: the bytes
 /// with a mask bit (bit i for byte i), and 0 at the others. `seq` is the number of the record among
 /// those of its hart.
+///
+/// The first misfit counts: of DrainCount, which expects as many stores as wait and found `count`;
+/// of Barrier, which expects the number of the store that has to drain first and found `seq`; of
+/// DrainData, which has the two masks, or else the first two bytes that differ.
 pub fn drains(
     s: &Stores,
     line: u64,

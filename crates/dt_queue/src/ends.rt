@@ -38,7 +38,7 @@ pub enum Pop {
     Empty,
 }
 
-/// A queue with room for 256 records: its two ends.
+/// A queue with room for 256 records: its two ends. An `Err` is want of memory.
 pub fn pair(alloc: Global) -> Result<(Feed, Take), AllocError>
     ensures pair { IfOk result (λ q. ArePair q.0 q.1) }
     ensures feed { IfOk result (λ q. (fed q.0 ≡ []) × (known_free q.0 ≡ 256)) }
