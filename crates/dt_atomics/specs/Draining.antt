@@ -1,10 +1,10 @@
-use Rattle.std.specs.Prelude.{ℕ, ◌&&◌, Bool, true, not, if◌then◌else◌, Option, None, Some, List, Result, Ok, Err, ⊤}
+use Rattle.std.specs.Prelude.{◌&&◌, Bool, true, not, if◌then◌else◌, List, Result, Ok, ⊤}
 use Rattle.dt_record.specs.declared.keys.Key.{Key}
 use Rattle.dt_record.specs.declared.reasons.Reason.TheVariants.{Undrained}
 use Rattle.dt_record.specs.Actions.{Action}
 use Rattle.dt_record.specs.Memory.{line_of}
 use Rattle.dt_rules.specs.declared.misfits.Misfit.{Misfit}
-use Rattle.dt_rules.specs.Checks.{misfit, and_then}
+use Rattle.dt_rules.specs.Checks.{and_then, none_left}
 use Rattle.dt_stores.specs.declared.answers.Which.{Which}
 use Rattle.dt_stores.specs.declared.answers.Which.TheVariants.{All, Line, BeforeWr, BeforeWw}
 use Rattle.dt_stores.specs.Oldest.{oldest_after}
@@ -13,14 +13,9 @@ use Rattle.dt_atomics.specs.Asking.{reads, writes_now, has_failed}
 
 -- Which own stores have to be drained before an atomic (this project's own).
 
--- there is no such store, else the oldest is the one expected to be drained before the record
-abbrev pub none_left : Option ℕ → (seq : ℕ) → Result ⊤ Misfit
-none_left None seq = Ok tt
-none_left (Some oldest) seq = Err (misfit Undrained oldest seq)
-
 -- none of the hart's stores that are asked about is undrained at the stamp, where that is asked at all
 abbrev pub drained_check : List Action → Key → (asked : Bool) → Which → Result ⊤ Misfit
-drained_check actions key asked which = if asked then none_left (oldest_after actions which key.stamp) key.seq else Ok tt
+drained_check actions key asked which = if asked then none_left Undrained (oldest_after actions which key.stamp) key.seq else Ok tt
 
 -- the stores of its own line; with release, unless it is a failed SC, all; where it reads, those before the last
 -- write-before-read fence; where it writes, those before the last write-before-write fence

@@ -1,11 +1,11 @@
 ghost use Rattle.std.specs.Prelude.{◌≡◌, List};
 ghost use Rattle.dt_record.specs.Actions.{Action};
 ghost use Rattle.dt_stores.specs.Standing.{StandsFor};
-ghost use Rattle.dt_atomics.specs.Draining.{all_drained_check, drained_check, none_left};
+ghost use Rattle.dt_atomics.specs.Draining.{all_drained_check, drained_check};
 
 use crate::accesses::{AtomicAccess, has_failed, line_of, reads, writes_now};
 use dt_record::Key;
-use dt_rules::{Misfit, Reason};
+use dt_rules::{Misfit, Reason, none_left};
 use dt_stores::{Stores, Which};
 
 /// Whether the own stores that the atomic waits for are drained. Expected is the number of the
@@ -23,21 +23,9 @@ fn drained(s: &Stores, key: Key, asked: bool, which: Which) -> Result<(), Misfit
     ensures { (actions : List Action) → StandsFor s.now actions → result ≡ drained_check actions key asked which }
 {
     if asked {
-        none_left(s.oldest(which, key.stamp), key.seq)
+        let oldest = s.oldest(which, key.stamp);
+        none_left(Reason::Undrained, oldest, u64::from(key.seq))
     } else {
         Ok(())
-    }
-}
-
-fn none_left(oldest: Option<u32>, seq: u32) -> Result<(), Misfit>
-    ensures { result ≡ none_left oldest seq }
-{
-    match oldest {
-        None => Ok(()),
-        Some(oldest) => Err(Misfit {
-            reason: Reason::Undrained,
-            expected: u64::from(oldest),
-            found: u64::from(seq),
-        }),
     }
 }

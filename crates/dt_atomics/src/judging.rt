@@ -24,6 +24,12 @@ use dt_versions::Moments;
 
 /// Checks an atomic with this key, for a hart with these stores, this local memory and this
 /// reservation: the line and the key of the LR that made it.
+///
+/// The first misfit counts. Undrained expects the number of the oldest store that has to be drained
+/// first, and found that of the atomic. ScSuccess expects 1, that a reservation is live, and found
+/// 0. AtomicValue expects the old value, extended to 64 bits, or of an SC 0 where it wrote and 1
+/// where it did not. AtomicWrite expects the width, then whether memory is written (0 or 1), and
+/// then what is written.
 pub fn atomic(
     m: &Moments,
     s: &Stores,

@@ -1,13 +1,14 @@
 ghost use Rattle.std.specs.Prelude.{◌≡◌, ◌≤◌, ◌<◌, ◌↔◌, length, IsTrue};
 ghost use Rattle.dt_record.specs.Lawful.{is_atomic_place};
 ghost use Rattle.dt_record.specs.LoadSources.{origin_of_key};
-ghost use Rattle.dt_atomics.specs.Newer.{HasNewerByte, is_newer_than};
+ghost use Rattle.dt_atomics.specs.Newer.{HasNewerByte};
 ghost use Rattle.dt_atomics.specs.Reading.{source_of, sources_of};
 ghost use Rattle.dt_atomics.specs.Values.{number_at};
 
 use crate::accesses::{AtomicAccess, reads};
+use dt_loads::is_newer;
 use dt_local::Local;
-use dt_record::{Key, Origin, Sources};
+use dt_record::{Origin, Sources};
 use dt_rules::NO_SOURCES;
 use dt_versions::Moments;
 
@@ -68,19 +69,9 @@ pub fn has_newer(m: &Moments, l: &Local, k: u32, x: AtomicAccess) -> bool
     }
     for i in 0..x.width {
         let addr = x.paddr + u64::from(i);
-        if is_newer(l.newest(addr), m.source(k, addr)) {
+        if is_newer(source(m, k, addr), l.newest(addr)) {
             return true;
         }
     }
     false
-}
-
-fn is_newer(newest: Option<Key>, source: Option<Key>) -> bool
-    ensures { result ≡ is_newer_than newest source }
-{
-    match (newest, source) {
-        (_, None) => false,
-        (None, Some(_)) => true,
-        (Some(newest), Some(source)) => newest < source,
-    }
 }

@@ -19,7 +19,8 @@ fn page_or_none(answer: WalkAnswer) -> u64
 
 /// Whether the access may have reached the physical address only by an older translation: the
 /// newest moment of the window that gives the address is not the last there. `ram_only` is for LR,
-/// SC and atomics.
+/// SC and atomics. A misfit is of Address: it expects the address at the window's last moment, or
+/// `NO_NUMBER` where that gives none, and found is `paddr`.
 pub fn address(
     m: &Moments,
     window: Span,

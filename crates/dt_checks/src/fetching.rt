@@ -29,7 +29,8 @@ pub fn is_older(span: Span, k: u32) -> bool
 }
 
 /// Whether the halfword at the virtual address comes by an older translation or from older memory:
-/// the moment chosen from the window, or that from `since`, is not the last there.
+/// the moment chosen from the window, or that from `since`, is not the last there. A misfit is of
+/// Fetch: it expects the virtual address, and found is the halfword that no moment gives.
 pub fn half_fetched(
     m: &Moments,
     window: Span,
@@ -74,7 +75,8 @@ fn second_fetched(
 }
 
 /// Whether any halfword of the instruction at the pc comes by an older translation or from older
-/// memory. An instruction of 16 bits has an upper half of zero.
+/// memory. An instruction of 16 bits has an upper half of zero. A misfit is that of the first
+/// halfword which no moment gives (`half_fetched`).
 pub fn fetched(m: &Moments, spans: FetchSpans, a: &Arch, bits: u32) -> Result<bool, Misfit>
     requires spans { SpansEndWithin spans (length m.now.writes) }
     requires arch { IsArch a.now }

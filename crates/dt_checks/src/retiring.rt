@@ -51,7 +51,9 @@ fn due_plan(p: Planned, tag: u8) -> Result<Planned, Misfit>
 }
 
 /// The plan of the instruction with these bits, where it can retire in this state in a record with
-/// this tag. An instruction of 16 bits has an upper half of zero; tags are those of dt_record.
+/// this tag. An instruction of 16 bits has an upper half of zero; tags are those of dt_record. A
+/// misfit is of Raises, which expects the cause and found nothing (`NO_NUMBER`), or else of Kind,
+/// which expects the tag that the instruction needs and found `tag`.
 pub fn retires(a: &Arch, bits: u32, tag: u8) -> Result<Planned, Misfit>
     requires arch { IsArch a.now }
     requires instruction { IsTrue (is_instruction bits) }

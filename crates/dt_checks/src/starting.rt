@@ -48,7 +48,8 @@ fn fetched_start(
 }
 
 /// The checks that each record of a retired instruction begins with: its pc, its fetch, and that it
-/// can retire in a record with this tag.
+/// can retire in a record with this tag. The first misfit counts: of Pc, which expects the hart's
+/// pc and found the record's, and then those of `fetched` and of `retires`.
 pub fn start(
     m: &Moments,
     spans: FetchSpans,

@@ -1,9 +1,9 @@
 ghost use Rattle.std.specs.Prelude.{◌≡◌, List};
 ghost use Rattle.dt_record.specs.Actions.{Action};
 ghost use Rattle.dt_stores.specs.Standing.{StandsFor};
-ghost use Rattle.dt_commits.specs.Undrained.{none_undrained, undrained_check};
+ghost use Rattle.dt_commits.specs.Undrained.{undrained_check};
 
-use dt_rules::{Misfit, Reason};
+use dt_rules::{Misfit, Reason, none_left};
 use dt_step::Planned;
 use dt_stores::{Stores, Which};
 
@@ -15,21 +15,9 @@ pub fn undrained(s: &Stores, plan: Planned, stamp: u64, seq: u32) -> Result<(), 
 {
     match plan {
         Planned::FenceI | Planned::FencesPages { .. } => {
-            none_undrained(s.oldest(Which::All, stamp), seq)
+            let oldest = s.oldest(Which::All, stamp);
+            none_left(Reason::Undrained, oldest, u64::from(seq))
         }
         _ => Ok(()),
-    }
-}
-
-fn none_undrained(oldest: Option<u32>, seq: u32) -> Result<(), Misfit>
-    ensures { result ≡ none_undrained oldest seq }
-{
-    match oldest {
-        None => Ok(()),
-        Some(oldest) => Err(Misfit {
-            reason: Reason::Undrained,
-            expected: u64::from(oldest),
-            found: u64::from(seq),
-        }),
     }
 }

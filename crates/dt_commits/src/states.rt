@@ -1,8 +1,8 @@
 ghost use Rattle.std.specs.Prelude.{◌≡◌, ◌==◌, length, Ok};
 ghost use Rattle.dt_record.specs.declared.reasons.Reason.TheVariants.{State};
 ghost use Rattle.dt_csr.specs.Kept.{values_of};
-ghost use Rattle.dt_rules.specs.Checks.{misfit, check};
-ghost use Rattle.dt_commits.specs.States.{state_check, registers_check, csrs_check};
+ghost use Rattle.dt_rules.specs.Checks.{misfit, check, first_difference};
+ghost use Rattle.dt_commits.specs.States.{registers_check, csrs_check};
 
 use dt_csr::Csrs;
 use dt_rules::{Misfit, Reason};
@@ -28,7 +28,7 @@ pub fn shows_csrs(a: &Arch, mode: u8, v: &[u64; 17]) -> Result<(), Misfit>
 /// Whether a first number and those after it are the ones that are due.
 fn are_shown(due: u64, dues: &[u64], found: u64, more: &[u64]) -> Result<(), Misfit>
     requires { length dues.now ≡ length more.now }
-    ensures { result ≡ check (due == found) (misfit State due found) (state_check dues.now more.now) }
+    ensures { result ≡ check (due == found) (misfit State due found) (first_difference State dues.now more.now) }
 {
     if due != found {
         return Err(differs(due, found));
@@ -38,7 +38,7 @@ fn are_shown(due: u64, dues: &[u64], found: u64, more: &[u64]) -> Result<(), Mis
 
 fn are_same(dues: &[u64], found: &[u64]) -> Result<(), Misfit>
     requires { length dues.now ≡ length found.now }
-    ensures { result ≡ state_check dues.now found.now }
+    ensures { result ≡ first_difference State dues.now found.now }
 {
     for i in 0..dues.len() {
         if dues[i] != found[i] {

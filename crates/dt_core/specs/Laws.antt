@@ -12,8 +12,8 @@ use Rattle.dt_core.specs.Marks.{least_mark, CanJudge}
 use Rattle.dt_core.specs.Notes.{announced, writes_below}
 use Rattle.dt_core.specs.Sound.{Lists, IsSound}
 
--- the writes of the notes with a stamp below the least mark are exactly those of the file, and all
--- are where all harts have ended
+-- what the notes announce below the least mark is all that the file writes there, and no more; once
+-- every hart has ended it is all that the file writes
 abbrev pub HoldsBelow : Option ℕ → List Note → List Record → Type 0
 HoldsBelow (Some least) notes file = writes_below least (by_key (announced notes)) ≡ writes_below least (writes_of file)
 HoldsBelow None notes file = by_key (announced notes) ≡ writes_of file

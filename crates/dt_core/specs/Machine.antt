@@ -38,7 +38,7 @@ pub record CoreState (J : Type 0) : Type 0 where
 abbrev pub with_hart : {J : Type 0} → CoreState J → ℕ → HartState J → CoreState J
 with_hart c hart s = record c { harts = slice_set c.harts hart s }
 
--- Feed: the next record goes to the end of its hart's queue; after the last, the end is fed
+-- Feed: the file's next record is queued for its hart; once there is none, the harts are told that no more come
 
 abbrev pub queued : {J : Type 0} → List (HartState J) → Record → Option (HartState J) → List (HartState J)
 queued harts r None = harts
@@ -64,11 +64,11 @@ take_of harts hart (Some s) = take_first harts hart s s.queue
 abbrev pub is_mine : ℕ → ℕ → ℕ → Bool
 is_mine workers worker hart = (hart % workers) == worker
 
--- a Mark with the stamp of the last taken record, where there is one
+-- a Mark at the cycle of the record that was taken last, and nothing before the first
 abbrev pub last_mark : ℕ → List Record → List Note
 last_mark hart taken = option_to_list (option_map (λ r. Mark hart r.stamp) (slice_get taken (length taken - 1)))
 
--- End where all was taken and the end was fed, and else a Mark
+-- End once no more records come and none is queued, and a Mark until then
 abbrev pub reach_of : Bool → ℕ → List Record → List Record → List Note
 reach_of true hart [] taken = End hart ∷ []
 reach_of true hart (r ∷ rs) taken = last_mark hart taken

@@ -40,6 +40,6 @@ pub record IsAnnounced (hart : ℕ) (records taken : List Record) (history : Lis
 
 pub record IsSound (file : List Record) (l : Lists) : Type 0 where
   pub fed : IsFed file l
-  -- each hart's taken list followed by its queue is what was fed of its records
+  -- of a hart's records that were fed, the first ones are taken and all others wait in its queue
   pub kept : (hart : ℕ) → l.taken hart ++ l.queue hart ≡ records_of hart l.fed
   pub harts : (hart : ℕ) → IsAnnounced hart (records_of hart file) (l.taken hart) l.history

@@ -19,12 +19,14 @@ impl Model for Notes {
 }
 
 impl Notes {
+    /// These notes, in this order.
     pub fn of(notes: Vec<Note>) -> Notes
         ensures { result ≡ notes.items }
     {
         Notes { notes }
     }
 
+    /// The notes in their order.
     pub fn as_slice(&self) -> &[Note]
         ensures { result.now ≡ self.now }
     {
@@ -36,8 +38,8 @@ impl Notes {
 /// is divided by the number of workers.
 #[derive(Debug, Drop)]
 pub enum CoreStep {
-    /// The next record of the file goes to its hart's queue; after the last, the end of all harts
-    /// is fed.
+    /// The file's next record is queued for its hart. Once there is none, all harts are told that
+    /// no more come.
     Feed,
     /// The first record of the hart's queue is taken.
     Take { hart: u8 },

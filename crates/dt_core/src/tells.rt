@@ -51,8 +51,8 @@ fn add_writes(notes: &mut Vec<Note>, writes: &[Write]) -> Result<(), AllocError>
     Ok(())
 }
 
-/// How far the hart has come: its end where all was taken and the end was fed, and else the stamp of
-/// the last taken record, where there is one.
+/// How far the hart has come: to its end, once no more records come and none is queued. Before that
+/// it has come to the cycle of the record that it took last, where it took one.
 fn reach_of(is_ended: bool, hart: u8, queue: &[Record], taken: &[Record]) -> Option<Note>
     ensures { option_to_list result ≡ reach_of is_ended hart queue.now taken.now }
 {

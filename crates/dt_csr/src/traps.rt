@@ -12,7 +12,8 @@ use crate::cause::{
 use crate::mstatus::{MIE, MPIE, MPP, MPRV, SIE, SPIE, SPP};
 use crate::{Csrs, MACHINE, SUPERVISOR, USER};
 
-/// Enters a trap at `pc` from a mode of 0, 1 or 3, and gives the new mode and pc.
+/// Takes a trap at the instruction at `pc`, in this mode: 0 (U), 1 (S) or 3 (M). It answers in
+/// which mode and at which address the hart goes on.
 pub fn enter_trap(c: &mut Csrs, mode: u8, pc: u64, cause: u64, tval: u64) -> (u8, u64)
     requires { IsMode mode }
     ensures mode { result.0 ≡ trap_mode c.old mode cause }
@@ -38,7 +39,7 @@ pub fn enter_trap(c: &mut Csrs, mode: u8, pc: u64, cause: u64, tval: u64) -> (u8
     }
 }
 
-/// Returns from a trap into M, and gives the new mode and pc.
+/// Returns from a trap into M. It answers in which mode and at which address the hart goes on.
 pub fn mret(c: &mut Csrs) -> (u8, u64)
     ensures mode { result.0 ≡ mret_mode c.old }
     ensures pc { result.1 ≡ mret_pc c.old }
@@ -53,7 +54,7 @@ pub fn mret(c: &mut Csrs) -> (u8, u64)
     (mode, c.mepc)
 }
 
-/// Returns from a trap into S, and gives the new mode and pc.
+/// Returns from a trap into S. It answers in which mode and at which address the hart goes on.
 pub fn sret(c: &mut Csrs) -> (u8, u64)
     ensures mode { result.0 ≡ sret_mode c.old }
     ensures pc { result.1 ≡ sret_pc c.old }

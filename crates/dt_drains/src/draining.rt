@@ -1,15 +1,16 @@
-ghost use Rattle.std.specs.Prelude.{◌≡◌, ◌==◌, length, List, IsOk, Ok};
+ghost use Rattle.std.specs.Prelude.{◌≡◌, ◌==◌, List, IsOk, Ok};
 ghost use Rattle.dt_record.specs.declared.reasons.Reason.TheVariants.{DrainData};
 ghost use Rattle.dt_record.specs.Actions.{Action};
 ghost use Rattle.dt_stores.specs.Standing.{StandsFor};
 ghost use Rattle.dt_stores.specs.Draining.{drain_answer};
-ghost use Rattle.dt_rules.specs.Checks.{misfit, check};
-ghost use Rattle.dt_drains.specs.Draining.{store_data_check, bytes_check, answer_check, drain_check};
+ghost use Rattle.dt_rules.specs.Checks.{misfit, check, first_difference};
+ghost use Rattle.dt_drains.specs.Draining.{store_data_check, answer_check, drain_check};
 
-use dt_rules::{Misfit, Reason};
+use dt_rules::{Misfit, Reason, same_bytes};
 use dt_stores::{DrainAnswer, Stores};
 
-/// Whether a store has the low bytes that its instruction stores, with zeros above them.
+/// Whether a store has the low bytes that its instruction stores, with zeros above them. A misfit
+/// is of StoreData and has both numbers.
 pub fn store_data(due: u64, found: u64) -> Result<(), Misfit>
     ensures { result ≡ store_data_check due found }
 {
@@ -23,6 +24,10 @@ pub fn store_data(due: u64, found: u64) -> Result<(), Misfit>
 /// Whether a drain may take the `count` oldest waiting stores of a line, and writes them: the bytes
 /// with a mask bit (bit i for byte i), and 0 at the others. `seq` is the number of the record among
 /// those of its hart.
+///
+/// The first misfit counts: of DrainCount, which expects as many stores as wait and found `count`;
+/// of Barrier, which expects the number of the store that has to drain first and found `seq`; of
+/// DrainData, which has the two masks, or else the first two bytes that differ.
 pub fn drains(
     s: &Stores,
     line: u64,
@@ -67,27 +72,14 @@ fn is_answer(
 
 /// Whether a mask and the bytes of a line are those that are due.
 fn is_data(due: u64, dues: &[u8; 64], mask: u64, bytes: &[u8; 64]) -> Result<(), Misfit>
-    ensures checks { result ≡ check (due == mask) (misfit DrainData due mask) (bytes_check dues.now bytes.now) }
+    ensures checks { result ≡ check (due == mask) (misfit DrainData due mask) (first_difference DrainData dues.now bytes.now) }
     ensures mask { IsOk result → due ≡ mask }
     ensures bytes { IsOk result → dues.now ≡ bytes.now }
 {
     if due != mask {
         return Err(misfit(Reason::DrainData, due, mask));
     }
-    are_bytes(dues, bytes)
-}
-
-fn are_bytes(dues: &[u8], found: &[u8]) -> Result<(), Misfit>
-    requires { length dues.now ≡ length found.now }
-    ensures checks { result ≡ bytes_check dues.now found.now }
-    ensures same { IsOk result → dues.now ≡ found.now }
-{
-    for i in 0..dues.len() {
-        if dues[i] != found[i] {
-            return Err(misfit(Reason::DrainData, u64::from(dues[i]), u64::from(found[i])));
-        }
-    }
-    Ok(())
+    same_bytes(Reason::DrainData, dues, bytes)
 }
 
 fn misfit(reason: Reason, expected: u64, found: u64) -> Misfit

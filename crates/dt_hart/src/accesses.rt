@@ -45,11 +45,9 @@ impl Accesses {
     {
         loads_keep_stores();
         atomics_keep_stores();
-        let key = Key {
-            stamp: event.stamp,
-            hart: event.hart,
-            seq,
-        };
+        let stamp = event.stamp;
+        let hart = event.hart;
+        let key = Key { stamp, hart, seq };
         match event.body {
             Body::Load { retire, at, paddr } if is_in_ram(paddr) => {
                 self.take_load(at, paddr, width_of(retire.bits), sources)
@@ -73,14 +71,8 @@ impl Accesses {
                 ..
             } => {
                 let order = order_of(retire.bits, wrote);
-                self.take_atomic(
-                    key.stamp,
-                    order,
-                    write_of(event, seq),
-                    paddr,
-                    width,
-                    sources,
-                )
+                let own = write_of(event, seq);
+                self.take_atomic(stamp, order, own, paddr, width, sources)
             }
             Body::Drain {
                 line,

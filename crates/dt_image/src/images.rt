@@ -14,6 +14,7 @@ pub enum ImageRefusal {
     TooLong,
     /// A read failed.
     ReadFault,
+    /// There was no memory for the bytes.
     OutOfMemory,
 }
 

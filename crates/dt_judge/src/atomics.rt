@@ -45,7 +45,7 @@ pub fn said_as(value: u64, paddr: u64, width: u8, wrote: bool, new: u64) -> Said
     }
 }
 
-/// How an atomic's address is translated: LR is a load, SC and AMO are stores.
+/// How an atomic's address is translated: that of an LR as a load's, any other as a store's.
 fn access_of(op: AtomicOp) -> Access
     ensures { result ≡ atomic_access op }
 {

@@ -29,11 +29,17 @@ pub enum Judged {
         expected: u64,
         found: u64,
     },
+    /// Memory was refused, so nothing is said of the record.
     OutOfMemory,
 }
 
 /// Judges the hart's next record over the writes that the moments hold, and takes it where it is
-/// allowed.
+/// allowed. After `Fail` and `OutOfMemory` the hart is as it was before, and the moments never
+/// change.
+///
+/// The answer is the judgement of the file (`Meets`) where the hart has taken the file's records of
+/// its number before this one, and the moments hold every write of the file up to the record's
+/// cycle. They may hold later ones too, as long as they are the first writes of the file.
 pub fn judge(h: &mut Hart, m: &Moments, event: &Record) -> Judged
     requires lawful { IsLawful event.now }
     requires its { event.now.hart ≡ h.old.arch.hart }

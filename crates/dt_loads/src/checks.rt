@@ -2,10 +2,10 @@ ghost use Rattle.std.specs.Prelude.{◌≡◌, List};
 ghost use Rattle.dt_alu.specs.Extend.{IsAccessWidth};
 ghost use Rattle.dt_record.specs.Actions.{Action, order_floor};
 ghost use Rattle.dt_stores.specs.Standing.{StandsFor};
-ghost use Rattle.dt_loads.specs.Checks.{device_check, order_check, none_before};
+ghost use Rattle.dt_loads.specs.Checks.{device_check, order_check};
 
 use dt_alu::extend;
-use dt_rules::{Misfit, Reason, device};
+use dt_rules::{Misfit, Reason, device, none_left};
 use dt_stores::{Stores, Which};
 
 /// Checks the value that a load of this many bytes (1, 2, 4 or 8) has from a device. A misfit
@@ -38,18 +38,5 @@ pub fn order(s: &Stores, floor: u64, at: u64) -> Result<(), Misfit>
             found: at,
         });
     }
-    no_store(s.oldest(Which::BeforeWr, at), at)
-}
-
-fn no_store(oldest: Option<u32>, at: u64) -> Result<(), Misfit>
-    ensures { result ≡ none_before oldest at }
-{
-    match oldest {
-        None => Ok(()),
-        Some(seq) => Err(Misfit {
-            reason: Reason::Order,
-            expected: u64::from(seq),
-            found: at,
-        }),
-    }
+    none_left(Reason::Order, s.oldest(Which::BeforeWr, at), at)
 }

@@ -13,4 +13,4 @@ pub use checks::{device_value, order};
 pub use dt_record::{LoadAsk, Sources};
 pub use dt_rules::Misfit;
 pub use laws::loads_have_one_answer;
-pub use reading::{Passed, load_ask, ram_load};
+pub use reading::{Passed, is_newer, load_ask, ram_load};

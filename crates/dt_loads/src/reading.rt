@@ -42,7 +42,8 @@ pub fn load_ask(key: Key, at: u64, paddr: u64, width: u8, value: u64) -> LoadAsk
 }
 
 /// Finds the sources of a load from RAM with this value, sign-extended or zero-extended, for a hart
-/// with these stores and this local memory.
+/// with these stores and this local memory. A misfit is of LoadSource: it expects the value that
+/// the load has at the last moment that it may see, and found is its value.
 pub fn ram_load(
     m: &Moments,
     s: &Stores,
@@ -93,7 +94,8 @@ fn has_newer(l: &Local, ask: LoadAsk, sources: Sources) -> bool
     false
 }
 
-fn is_newer(from: Origin, newest: Option<Key>) -> bool
+/// Whether a byte from here comes from a write that is above the newest key known for the byte.
+pub fn is_newer(from: Origin, newest: Option<Key>) -> bool
     ensures { result ≡ is_newer_than newest from }
 {
     match (from, newest) {

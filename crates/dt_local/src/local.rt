@@ -37,6 +37,7 @@ impl Model for Local {
 }
 
 impl Local {
+    /// A hart that has read and written nothing yet. It takes no memory.
     pub fn new(alloc: Global) -> Local
         ensures { result ≡ local_memory [] None }
     {

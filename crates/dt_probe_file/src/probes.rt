@@ -44,6 +44,7 @@ pub struct Room {
 }
 
 impl Room {
+    /// Takes the memory of one stream. An `Err` is want of memory.
     pub fn new(alloc: Global) -> Result<Room, AllocError> {
         let held = Held::new(alloc)?;
         Ok(Room { held })

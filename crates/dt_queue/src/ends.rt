@@ -38,7 +38,7 @@ pub enum Pop {
     Empty,
 }
 
-/// A queue with room for 256 records: its two ends.
+/// A queue with room for 256 records: its two ends. An `Err` is want of memory.
 pub fn pair(alloc: Global) -> Result<(Feed, Take), AllocError>
     ensures pair { IfOk result (λ q. ArePair q.0 q.1) }
     ensures feed { IfOk result (λ q. (fed q.0 ≡ []) × (known_free q.0 ≡ 256)) }
@@ -80,8 +80,8 @@ impl Take {
     }
 }
 
-/// Brings the two ends of a queue together, in one thread. It answers how many records are left: what
-/// was taken followed by what is left is what was fed.
+/// Brings the two ends of a queue together, in one thread. It answers how many records are left.
+/// Behind the taken ones they make up all that was fed.
 pub fn meet(f: &mut Feed, t: &mut Take) -> usize
     requires { ArePair f.old t.old }
     ensures queue { (feed_queue f.new ≡ feed_queue f.old) × (take_queue t.new ≡ take_queue t.old) }

@@ -76,10 +76,6 @@ undrained at actions = filter (is_undrained at) (held_of actions)
 abbrev pub is_waiting : Held → Bool
 is_waiting h = is_none h.drained
 
--- the stores of a line that no drain has taken, the oldest first
-abbrev pub waiting_on : ℕ → List Action → List Held
-waiting_on line actions = filter (λ h. is_waiting h && is_on line h.store) (held_of actions)
-
 -- the youngest store that is undrained in a cycle and covers a byte
 abbrev pub forwarded : ℕ → List Action → ℕ → Option Held
 forwarded at actions addr = find (λ h. store_covers addr h.store) (reverse (undrained at actions))

@@ -4,6 +4,7 @@ pub mod Image
 pub mod KeyLaws
 pub mod Keys
 pub mod Lawful
+pub mod Letters
 pub mod LoadSources
 pub mod Marks
 pub mod Memory

@@ -7,8 +7,8 @@ use Rattle.dt_record.specs.declared.writes.Write.{Write}
 use Rattle.dt_record.specs.Image.{image_byte}
 use Rattle.dt_record.specs.Keys.{key_below}
 
--- Memory after some of the writes of a file, which stand in the order of their keys. A moment k is
--- the number of first writes that have happened (this project's own).
+-- Memory after some of the writes of a file, which stand in the order of their keys. At moment k
+-- the first k of them are done and the others are not (this project's own).
 
 -- the 64-byte line that holds an address
 abbrev pub line_of : ℕ → ℕ

@@ -48,7 +48,7 @@ wide_bytes r = tag_number r.body ∷ r.hart ∷ double r.stamp ++ body_bytes r.b
 
 -- Version 2: numbers in groups of seven bits, and no byte for a number that is 0.
 
--- groups of seven bits, the lowest first, in at most so many bytes after the first; every byte but the last has bit 7 set
+-- groups of seven bits, the lowest first, in at most so many bytes after the first; bit 7 of a byte says that another follows
 abbrev pub varint_within : ℕ → ℕ → List ℕ
 varint_within zero n = n ∷ []
 varint_within (suc more) n = if nat_lt n 128 then n ∷ [] else (128 + n % 128) ∷ varint_within more (n / 128)

@@ -31,6 +31,7 @@ impl Model for Image {
 }
 
 impl Image {
+    /// The image of these bytes, at most `IMAGE_LIMIT` of them. The first stands at `RAM_START`.
     pub fn of(bytes: Vec<u8>) -> Image
         requires { length bytes.items ≤ 16777216 }
         ensures { result ≡ bytes.items }
@@ -48,6 +49,7 @@ impl Image {
         self.bytes.get(at).copied().unwrap_or(0)
     }
 
+    /// The same image in memory of its own. An `Err` is want of memory.
     pub fn copy(&self) -> Result<Image, AllocError>
         ensures { IfOk result (λ image. image ≡ self.now) }
     {

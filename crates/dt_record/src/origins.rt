@@ -1,3 +1,6 @@
+ghost use Rattle.std.specs.Prelude.{◌≡◌};
+ghost use Rattle.dt_record.specs.Letters.{has_letter};
+
 use crate::keys::Key;
 
 /// Where one byte of a load comes from.
@@ -32,4 +35,13 @@ pub struct Letters {
     pub d: bool,
     pub c: bool,
     pub z: bool,
+}
+
+impl Letters {
+    /// Whether some rule settled a departure.
+    pub fn has_any(&self) -> bool
+        ensures { result ≡ has_letter self.now }
+    {
+        self.l || self.s || self.p || self.i || self.d || self.c || self.z
+    }
 }

@@ -20,8 +20,8 @@ pub struct Retire {
     pub value: u64,
 }
 
-/// What happened. Each retired instruction is one record: `Load` for loads, `Store` for stores,
-/// `Atomic` for LR, SC and AMO, and `Commit` for all others.
+/// What happened. A retired instruction is one record: a load, a store or an atomic (LR, SC or AMO)
+/// has the kind of that name, and any other instruction is a `Commit`.
 #[derive(Clone, Copy, Debug, PartialEq, Eq)]
 pub enum Body {
     /// `value` is what was written to rd, and 0 where no register was written or rd is x0.
@@ -70,8 +70,8 @@ pub enum Body {
         wrote: bool,
         new: u64,
     },
-    /// Stores leave the store buffer: the bytes of a 64-byte line whose mask bit is set (bit i for
-    /// byte i) are written. `count` is the number of stores that this drain takes.
+    /// Stores leave the store buffer and are written to a 64-byte line. Bit i of `mask` says
+    /// whether byte i is written. `count` is the number of stores that this drain takes.
     Drain {
         line: u64,
         mask: u64,

@@ -22,6 +22,7 @@ pub enum Next {
     Limit { what: What, number: u64 },
     /// The source of the records failed.
     ReadFault,
+    /// The stream was refused memory.
     OutOfMemory,
 }
 

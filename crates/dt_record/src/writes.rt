@@ -5,8 +5,8 @@ ghost use Rattle.dt_record.specs.Writes.{write_of_record, width_mask, line_with}
 use crate::keys::Key;
 use crate::records::{Body, Record};
 
-/// A write to memory: the bytes of one 64-byte line whose mask bit is set (bit i for byte i). The
-/// other bytes are 0.
+/// A write to memory, within one 64-byte line. Bit i of the mask says whether byte i is written; a
+/// byte that is not is 0 here.
 #[derive(Clone, Copy, Debug, PartialEq, Eq)]
 pub struct Write {
     /// The key of the record that wrote.

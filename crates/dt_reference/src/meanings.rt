@@ -8,8 +8,8 @@ use dt_decode::{Instr, decode};
 use dt_rvc::expand;
 use dt_step::decoded_targets_are_even;
 
-/// What an instruction as fetched means, where it means something. A 16-bit instruction has its
-/// upper half zero.
+/// What an instruction as fetched means, where it means something. Above the bits of a short one
+/// stand zeros.
 pub fn meaning(bits: u32) -> Option<Instr>
     requires { IsTrue (is_instruction bits) }
     ensures meaning { result ≡ meaning_of bits }

@@ -10,21 +10,24 @@ use Rattle.std.proofs.lemmas.List.FromFn.{length-map-range_with_len}
 use Rattle.dt_record.specs.declared.writes.Write.{Write}
 use Rattle.dt_record.specs.Image.{image_byte}
 use Rattle.dt_record.specs.Memory.{covers, memory_at}
+use Rattle.dt_record.specs.declared.reasons.Reason.{Reason}
+use Rattle.dt_record.specs.declared.reasons.Reason.TheVariants.{Refill as NotRefilled}
 use Rattle.dt_rules.specs.declared.misfits.Misfit.{Misfit}
+use Rattle.dt_rules.specs.Checks.{first_difference}
 use Rattle.dt_versions.specs.declared.moments.Span.{Span}
 use Rattle.dt_refills.specs.Laws.{SameRefills}
-use Rattle.dt_refills.specs.Refilling.{differing, has_line, line_at, refill_check}
+use Rattle.dt_refills.specs.Refilling.{has_line, line_at, refill_check}
 use Rattle.dt_refills.proofs.Spans.{none_passes, pass_alike, some_passes}
 
 -- What a line holds.
 
 -- bytes that are as many as are due differ nowhere where they are equal
-pub equal_is_ok : (due found : List ℕ) → length due ≡ length found → bytes_eq due found ≡ is_ok (differing due found)
-equal_is_ok [] [] same = refl
-equal_is_ok [] (y ∷ ys) same = absurd (omega arith)
-equal_is_ok (x ∷ xs) [] same = absurd (omega arith)
-equal_is_ok (x ∷ xs) (y ∷ ys) same = elim (cases_Bool (x == y)) [
-  | inl here ↦ rw here (equal_is_ok xs ys (omega arith))
+pub equal_is_ok : (reason : Reason) (due found : List ℕ) → length due ≡ length found → bytes_eq due found ≡ is_ok (first_difference reason due found)
+equal_is_ok reason [] [] same = refl
+equal_is_ok reason [] (y ∷ ys) same = absurd (omega arith)
+equal_is_ok reason (x ∷ xs) [] same = absurd (omega arith)
+equal_is_ok reason (x ∷ xs) (y ∷ ys) same = elim (cases_Bool (x == y)) [
+  | inl here ↦ rw here (equal_is_ok reason xs ys (omega arith))
   | inr differs ↦ rw differs refl
 ]
 
@@ -43,7 +46,7 @@ found_in image writes seen line bytes k from to same =
 -- none has it
 pub found_nowhere : (image : List ℕ) (writes : List Write) (seen : Span) (line : ℕ) (bytes : List ℕ) (r : Result (Unit {0}) Misfit)
     → ((k : ℕ) → seen.first ≤ k → k ≤ seen.last → bytes_eq (line_at image writes k line) bytes ≡ false)
-    → r ≡ differing (line_at image writes seen.last line) bytes → r ≡ refill_check image writes seen line bytes
+    → r ≡ first_difference NotRefilled (line_at image writes seen.last line) bytes → r ≡ refill_check image writes seen line bytes
 found_nowhere image writes seen line bytes r none is =
     let lost : has_line image writes seen line bytes ≡ false =
     none_passes (λ j. bytes_eq (line_at image writes j line) bytes) seen.first (seen.last + 1 - seen.first) (λ k from to. none k from (omega arith)) in
@@ -62,7 +65,7 @@ shorter ws vs last k same within = sym (take-take k last ws within) ∙ ap (take
 
 pub same_refills : SameRefills
 same_refills image ws vs seen line bytes same =
-    ap (λ b. if b then Ok tt else differing (line_at image ws seen.last line) bytes)
+    ap (λ b. if b then Ok tt else first_difference NotRefilled (line_at image ws seen.last line) bytes)
     (pass_alike (λ k. bytes_eq (line_at image ws k line) bytes) (λ k. bytes_eq (line_at image vs k line) bytes) seen.first (seen.last + 1 - seen.first)
     (λ k from to. ap (λ due. bytes_eq due bytes) (same_line image ws vs k line (shorter ws vs seen.last k same (omega arith)))))
-    ∙ ap (λ due. if has_line image vs seen line bytes then Ok tt else differing due bytes) (same_line image ws vs seen.last line same)
+    ∙ ap (λ due. if has_line image vs seen line bytes then Ok tt else first_difference NotRefilled due bytes) (same_line image ws vs seen.last line same)

@@ -1,11 +1,11 @@
-use Rattle.std.specs.Prelude.{ℕ, ◌+◌, ◌-◌, ◌==◌, Bool, if◌then◌else◌, List, [], ◌∷◌, map, Result, Ok}
+use Rattle.std.specs.Prelude.{ℕ, ◌+◌, ◌-◌, Bool, if◌then◌else◌, List, map, Result, Ok}
 use Rattle.std.specs.List.{list_any, range_with_len}
 use Rattle.std.specs.Str.{bytes_eq}
 use Rattle.dt_record.specs.declared.reasons.Reason.TheVariants.{Refill as NotRefilled}
 use Rattle.dt_record.specs.declared.writes.Write.{Write}
 use Rattle.dt_record.specs.Memory.{memory_at}
 use Rattle.dt_rules.specs.declared.misfits.Misfit.{Misfit}
-use Rattle.dt_rules.specs.Checks.{misfit, check}
+use Rattle.dt_rules.specs.Checks.{first_difference}
 use Rattle.dt_versions.specs.declared.moments.Span.{Span}
 
 -- The check of a refill (this project's own).
@@ -19,14 +19,8 @@ abbrev pub has_line : List ℕ → List Write → Span → (line : ℕ) → List
 has_line image writes span line bytes =
     list_any (λ k. bytes_eq (line_at image writes k line) bytes) (range_with_len span.first (span.last + 1 - span.first))
 
--- the bytes are those that are due, else the first two that differ
-abbrev pub differing : (due found : List ℕ) → Result (Unit {0}) Misfit
-differing [] found = Ok tt
-differing (due ∷ dues) [] = Ok tt
-differing (due ∷ dues) (found ∷ more) = check (due == found) (misfit NotRefilled due found) (differing dues more)
-
 -- a refill, of which these are the moments that its hart may see: some of them has the whole line; else the first byte that
 -- differs from the last one
 abbrev pub refill_check : List ℕ → List Write → (seen : Span) → (line : ℕ) → List ℕ → Result (Unit {0}) Misfit
 refill_check image writes seen line bytes =
-    if has_line image writes seen line bytes then Ok tt else differing (line_at image writes seen.last line) bytes
+    if has_line image writes seen line bytes then Ok tt else first_difference NotRefilled (line_at image writes seen.last line) bytes

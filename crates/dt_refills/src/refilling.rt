@@ -1,10 +1,12 @@
 ghost use Rattle.std.specs.Prelude.{◌≡◌, ◌≤◌, length, IsTrue};
 ghost use Rattle.std.specs.Result.{is_ok};
 ghost use Rattle.std.specs.Str.{bytes_eq};
+ghost use Rattle.dt_record.specs.declared.reasons.Reason.TheVariants.{Refill as NotRefilled};
 ghost use Rattle.dt_record.specs.Lawful.{is_ram_line};
-ghost use Rattle.dt_refills.specs.Refilling.{differing, line_at, refill_check};
+ghost use Rattle.dt_rules.specs.Checks.{first_difference};
+ghost use Rattle.dt_refills.specs.Refilling.{line_at, refill_check};
 
-use dt_rules::{Misfit, Reason};
+use dt_rules::{Misfit, Reason, same_bytes};
 use dt_versions::{Moments, Span};
 
 /// The bytes of the line after the first k writes.
@@ -20,31 +22,14 @@ fn line_at(m: &Moments, k: u32, line: u64) -> [u8; 64]
     bytes
 }
 
-/// Whether the bytes found are those that are due.
-fn are_due(due: &[u8], found: &[u8]) -> Result<(), Misfit>
-    requires { length due.now ≡ length found.now }
-    ensures { result ≡ differing due.now found.now }
-{
-    for i in 0..due.len() {
-        if due[i] != found[i] {
-            return Err(Misfit {
-                reason: Reason::Refill,
-                expected: u64::from(due[i]),
-                found: u64::from(found[i]),
-            });
-        }
-    }
-    Ok(())
-}
-
 /// Whether the line had these bytes after the first k writes.
 fn had(m: &Moments, k: u32, line: u64, bytes: &[u8; 64]) -> Result<(), Misfit>
     requires within { k ≤ length m.now.writes }
     requires line { IsTrue (is_ram_line line) }
-    ensures value { result ≡ differing (line_at m.now.image m.now.writes k line) bytes.now }
+    ensures value { result ≡ first_difference NotRefilled (line_at m.now.image m.now.writes k line) bytes.now }
     ensures same { is_ok result ≡ bytes_eq (line_at m.now.image m.now.writes k line) bytes.now }
 {
-    are_due(&line_at(m, k, line), bytes)
+    same_bytes(Reason::Refill, &line_at(m, k, line), bytes)
 }
 
 /// Whether the line of RAM has these bytes at some moment of the span: those that the hart may see

@@ -1,7 +1,8 @@
-use Rattle.std.specs.Prelude.{ℕ, ◌||◌, Bool, if◌then◌else◌, List, [], ◌++◌, codes, sum_by, count_by}
+use Rattle.std.specs.Prelude.{ℕ, Bool, if◌then◌else◌, List, [], ◌++◌, codes, sum_by, count_by}
 use Rattle.std.specs.List.{flat_map, enumerate_from}
 use Rattle.std.specs.Fmt.{decimal}
 use Rattle.dt_record.specs.declared.origins.Letters.{Letters}
+use Rattle.dt_record.specs.Letters.{has_letter}
 use Rattle.dt_record.specs.Reasons.{reason_number, reason_name}
 use Rattle.dt_text.specs.Line.{decimal_field, double_field, key_text}
 use Rattle.dt_verdict.specs.declared.verdicts.Failure.{Failure}
@@ -72,9 +73,6 @@ rules_line notes =
 -- a letter, where it is set
 abbrev pub letter_text : Bool → List ℕ → List ℕ
 letter_text here letter = if here then letter else []
-
-abbrev pub has_letter : Letters → Bool
-has_letter letters = letters.l || (letters.s || (letters.p || (letters.i || (letters.d || (letters.c || letters.z)))))
 
 -- the letters that are set, or a dash where there are none
 abbrev pub letters_text : Letters → List ℕ

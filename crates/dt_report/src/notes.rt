@@ -1,18 +1,12 @@
 ghost use Rattle.std.specs.Prelude.{◌≡◌, ◌<◌, ◌≤◌, ◌∷◌, ◌++◌, OnOk, IfOk, length, take, drop};
 ghost use Rattle.std.specs.List.{prefix_len, flat_map};
 ghost use Rattle.dt_report.specs.Runs.{Run, same_origin, run, run_text, runs_from, runs_text, origin_text, sources_text};
-ghost use Rattle.dt_report.specs.Report.{letter_text, has_letter, letters_text, note_line};
+ghost use Rattle.dt_report.specs.Report.{letter_text, letters_text, note_line};
 
 use dt_record::{Letters, Origin, Sources};
 use dt_text::{put_key, put_number};
 use dt_verdict::Noted;
 use std::alloc::AllocError;
-
-fn has_any(letters: &Letters) -> bool
-    ensures { result ≡ has_letter letters.now }
-{
-    letters.l || letters.s || letters.p || letters.i || letters.d || letters.c || letters.z
-}
 
 fn put_letter(out: &mut Vec<u8>, is_set: bool, letter: &str) -> Result<(), AllocError>
     ensures { OnOk result (out.new.items ≡ out.old.items ++ letter_text is_set letter.now) }
@@ -27,7 +21,7 @@ fn put_letter(out: &mut Vec<u8>, is_set: bool, letter: &str) -> Result<(), Alloc
 fn put_letters(out: &mut Vec<u8>, letters: &Letters) -> Result<(), AllocError>
     ensures { OnOk result (out.new.items ≡ out.old.items ++ letters_text letters.now) }
 {
-    if !has_any(letters) {
+    if !letters.has_any() {
         return out.extend_from_slice(b"-");
     }
     put_letter(out, letters.l, "L")?;

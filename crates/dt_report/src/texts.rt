@@ -2,7 +2,7 @@ ghost use Rattle.std.specs.Prelude.{◌≡◌};
 
 use std::marker::Model;
 
-/// A text. A contract sees it as the list of its bytes.
+/// A text of whole lines. A contract sees it as the list of its bytes.
 #[derive(Debug, Drop)]
 pub struct Text {
     text: Vec<u8>,
@@ -23,6 +23,7 @@ impl Text {
         Text { text }
     }
 
+    /// The bytes, all of ASCII. Each line ends with a line feed, the last one too.
     pub fn bytes(&self) -> &[u8]
         ensures { result.now ≡ self.now }
     {

@@ -1,3 +1,6 @@
+ghost use Rattle.std.specs.Prelude.{◌≡◌, length, IsOk};
+ghost use Rattle.dt_rules.specs.Checks.{first_difference, none_left};
+
 use dt_record::{Letters, Origin, Reason, Sources};
 
 /// Why a record is not allowed: the first check that it fails, what that check expected and what it
@@ -28,3 +31,36 @@ pub const NO_SOURCES: Sources = Sources {
     count: 0,
     from: [Origin::Image; 8],
 };
+
+/// Whether no store is left of those that a record waits for. A misfit expects the number of the
+/// oldest among the records of its hart; what it found is for the caller to say.
+pub fn none_left(reason: Reason, oldest: Option<u32>, found: u64) -> Result<(), Misfit>
+    ensures { result ≡ none_left reason oldest found }
+{
+    match oldest {
+        None => Ok(()),
+        Some(oldest) => Err(Misfit {
+            reason,
+            expected: u64::from(oldest),
+            found,
+        }),
+    }
+}
+
+/// Whether bytes are those that are due. A misfit has the first two that differ.
+pub fn same_bytes(reason: Reason, dues: &[u8], found: &[u8]) -> Result<(), Misfit>
+    requires { length dues.now ≡ length found.now }
+    ensures checks { result ≡ first_difference reason dues.now found.now }
+    ensures same { IsOk result → dues.now ≡ found.now }
+{
+    for i in 0..dues.len() {
+        if dues[i] != found[i] {
+            return Err(Misfit {
+                reason,
+                expected: u64::from(dues[i]),
+                found: u64::from(found[i]),
+            });
+        }
+    }
+    Ok(())
+}

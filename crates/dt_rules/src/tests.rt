@@ -1,6 +1,6 @@
-use crate::{counter, device, interrupt, pending, sc_live, tval};
+use crate::{Misfit, counter, device, interrupt, none_left, pending, same_bytes, sc_live, tval};
 use dt_csr::Csrs;
-use dt_record::{Image, Key, Write};
+use dt_record::{Image, Key, Reason, Write};
 use dt_versions::Moments;
 use std::test::Fail;
 
@@ -103,4 +103,26 @@ fn another_harts_write_ends_a_reservation(rt: HostRuntime) -> Result<(), Fail> {
     assert!(rt; sc_live(&moments, reserved, LINE, key(9, 1, 6)));
     assert!(rt; sc_live(&moments, Some((LINE, key(6, 0, 4))), LINE, key(15, 0, 6)));
     Ok(())
+}
+
+#[test]
+fn a_store_that_is_left_is_named(rt: HostRuntime) {
+    assert_eq!(rt; none_left(Reason::Undrained, None, 9), Ok(()));
+    let refused = Misfit {
+        reason: Reason::Undrained,
+        expected: 4,
+        found: 9,
+    };
+    assert_eq!(rt; none_left(Reason::Undrained, Some(4), 9), Err(refused));
+}
+
+#[test]
+fn the_first_bytes_that_differ_are_named(rt: HostRuntime) {
+    assert_eq!(rt; same_bytes(Reason::Refill, &[7, 8, 1], &[7, 8, 1]), Ok(()));
+    let refused = Misfit {
+        reason: Reason::Refill,
+        expected: 8,
+        found: 9,
+    };
+    assert_eq!(rt; same_bytes(Reason::Refill, &[7, 8, 1], &[7, 9, 2]), Err(refused));
 }

@@ -30,14 +30,14 @@ word_list w = w.ticket ∷ w.serving ∷ w.count ∷ w.halt ∷ []
 
 -- the line before the slot. `front` is how many tickets were served so far
 pub record Lined (front : ℕ) (history : List Entry) (ticket serving : ℕ) (home : Home) (views : List View) : Type 0 where
-  -- modulo 2^64, `serving` and the number of seats with a ticket make `ticket`, and the tickets are different numbers from `serving` up
+  -- each seat in line has a ticket, the served one or one of those right behind it, and no two have the same; the next comer draws the one behind all of these. The two words wrap at 2^64
   pub served : serving ≡ front % 2 ^ 64
   pub drawn : ticket ≡ (front + total in_line views) % 2 ^ 64
   pub tickets : EachView views (λ v. IfSome v.ticket (λ t. (front ≤ t) × (t < front + total in_line views)))
   pub apart : (i j : ℕ) (v w : View) (t : ℕ) → get_elem? views i ≡ some v → get_elem? views j ≡ some w → v.ticket ≡ Some t → w.ticket ≡ Some t → i ≡ j
   -- a seat that stands for no pass has no ticket
   pub in_person : EachView views (λ v. in_line v ≤ length v.passes)
-  -- the slot is at home but while the seat whose ticket is served has it, and the history is the list at home or else the one that this seat holds
+  -- the history lies in the slot, or with the one seat that may take it out: the seat that is served
   pub at_home : (list : Stored) → home ≡ some list → list.items ≡ history
   pub away : home ≡ none → (seat : ℕ) × (v : View) × (get_elem? views seat ≡ some v) × (v.ticket ≡ Some front) × (v.held ≡ Some history)
   pub holder : EachView views (λ v. IfSome v.held (λ xs. (xs ≡ history) × (v.ticket ≡ Some front) × (home ≡ none)))
@@ -46,11 +46,11 @@ pub record Lined (front : ℕ) (history : List Entry) (ticket serving : ℕ) (ho
 pub record Kept (most made : ℕ) (history : List Entry) (count halt : ℕ) (views : List View) : Type 0 where
   -- the history has `count` entries. What the seat that has the slot puts behind the list is no part of it before it is counted
   pub counted : count ≡ length history
-  -- each seen history is a prefix of the history
+  -- what a pass has seen is how the history begins
   pub seen : EachPass views (λ k. IsPrefix k.seen history)
-  -- each pass's own notes are the entries with its number, also of passes that were given back
+  -- the notes of a pass are those that the history has under its number; giving it back changes nothing in this
   pub own : EachPass views (λ k. k.own ≡ notes_of k.number history)
-  -- the passes made have different numbers below the number made, and each entry has one of these numbers
+  -- a number below `made` belongs to one pass, and any other to none; no entry stands under a number without a pass
   pub numbered : (n : ℕ) → over_passes (is_numbered n) views ≡ one_if (nat_lt n made)
   pub all_made : over_passes (λ k. 1) views ≡ made
   pub entered : All (λ e. e.pass < made) history
@@ -58,12 +58,12 @@ pub record Kept (most made : ℕ) (history : List Entry) (count halt : ℕ) (vie
   pub makers : EachView views (λ v. (v.made ≡ 0) ⊎ (v.made ≡ made))
   pub one_maker : total (λ v. v.made) views ≡ made
   pub few : (made ≤ most) × (most < 256)
-  -- `halt` is not 0 exactly where a pass has stopped, and where a pass saw a stop `halt` is not 0
+  -- the word `halt` tells whether any pass has stopped. Nobody saw a stop before the word told it
   pub halts : halt ≢ 0 → 0 < over_passes has_stopped views
   pub runs : halt ≡ 0 → over_passes has_stopped views ≡ 0
   pub saw : EachPass views (λ k. k.saw_stop ≡ true → halt ≢ 0)
 
--- the rule over words, slot and views. A pass that was given back counts with the seat that took it in. The seat that was given back then stands for no pass, and nothing is said of it
+-- the rule over words, slot and views. Where one seat took in the pass of another, the pass is among the first one's from then on, and the other has none
 pub record Moment (most : ℕ) (w : Words) (home : Home) (views : List View) : Type 0 where
   pub front : ℕ
   pub history : List Entry

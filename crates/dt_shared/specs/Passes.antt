@@ -27,7 +27,7 @@ abbrev pub first_known : List Known → Known
 first_known [] = newcomer 0
 first_known (k ∷ ks) = k
 
--- new passes, as many as this, numbered from 0 in the order of the list
+-- so many new passes; the place of a pass in the list, from 0, is its number
 pub record AreNumbered (id : TableId) (count : ℕ) (passes : List PassState) : Type 0 where
   pub size : length passes ≡ count
   pub each : (n : ℕ) → n < count → slice_get passes n ≡ Some (new_pass id n)

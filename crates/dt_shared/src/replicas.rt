@@ -50,6 +50,7 @@ impl Replica {
         }
     }
 
+    /// The notes that were copied so far, in the order of the history.
     pub fn notes(&self) -> &[Note]
         ensures { result.now ≡ self.now.notes }
     {

@@ -53,6 +53,9 @@ impl Model for MemSource {
 }
 
 impl MemSource {
+    /// A source of these bytes, from the first on, that was not called yet. `piece` is how many
+    /// bytes a call gives at most, and 0 means 1. `fail` has the numbers of the calls that fail, in
+    /// any order.
     pub fn new(bytes: Vec<u8>, piece: usize, fail: Vec<u64>) -> MemSource
         ensures { result ≡ record {
           rest = bytes.items;
@@ -119,6 +122,7 @@ impl Model for CalmSource {
 }
 
 impl CalmSource {
+    /// A source of these bytes, from the first on. A call gives as many as the buffer has room for.
     pub fn new(bytes: Vec<u8>) -> CalmSource
         ensures { result ≡ bytes.items }
     {

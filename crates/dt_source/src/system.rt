@@ -88,6 +88,7 @@ impl<W> Model for StdSink<W> {
 }
 
 impl<W: Write> StdSink<W> {
+    /// A sink that writes to this writer. No call has failed yet.
     pub fn new(writer: W) -> StdSink<W>
         ensures { result ≡ 0 }
     {

@@ -16,6 +16,7 @@ pub enum ReadRefusal {
     TooLong,
     /// A read failed.
     ReadFault,
+    /// There was no memory for the bytes. What was read is gone.
     OutOfMemory,
 }
 

@@ -41,13 +41,13 @@ abbrev pub FitsNext : List ℕ → List Write → List Action → (ℕ → ℕ) 
 FitsNext image writes actions moments ask k =
     FitsThere image writes (then_action actions (Loaded ask)) moments (length actions) ask k
 
--- a load is refused exactly where no assignment of all loads up to it fits
+-- after least choices some moment fits a next load just where it and all loads before it can have sources
 abbrev pub RefusalIsExact : Type 0
 RefusalIsExact = (image : List ℕ) (writes : List Write) (actions : List Action) (moments : ℕ → ℕ) (ask : LoadAsk) → IsTrue (are_in_order writes)
     → ChoosesLeast image writes actions moments
     → HasSources image writes (then_action actions (Loaded ask)) ↔ ((k : ℕ) × FitsNext image writes actions moments ask k)
 
--- and then it is refused whatever the hart does afterwards
+-- so a load that is refused stays refused, whatever the hart does afterwards
 abbrev pub FrontsHaveSources : Type 0
 FrontsHaveSources = (image : List ℕ) (writes : List Write) (actions more : List Action)
     → HasSources image writes (actions ++ more) → HasSources image writes actions

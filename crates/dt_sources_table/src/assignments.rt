@@ -157,7 +157,7 @@ fn source(before: &[Event], writes: &[Write], k: usize, at: u64, addr: u64) -> (
     }
 }
 
-/// The youngest store that covers the byte and that no drain by the cycle has taken.
+/// The youngest store on the byte that still waits after the cycle.
 fn own_source(before: &[Event], at: u64, addr: u64) -> Option<OwnStore> {
     let mut found = None;
     for event in before {

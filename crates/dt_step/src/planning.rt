@@ -145,16 +145,9 @@ fn atomic_plan(a: &Arch, i: Instr, bits: u32) -> Planned
             rs1,
             rs2,
         } => {
+            let amo = AtomicOp::Amo(op);
             let operand = low_bytes(width, value_of(a, rs2));
-            atomic(
-                value_of(a, rs1),
-                width,
-                AtomicOp::Amo(op),
-                aq,
-                rl,
-                rd,
-                operand,
-            )
+            atomic(value_of(a, rs1), width, amo, aq, rl, rd, operand)
         }
         _ => system_plan(a, i, bits),
     }

@@ -84,7 +84,7 @@ pub enum Planned {
 #[derive(Clone, Copy, Debug, PartialEq, Eq)]
 pub enum Answer {
     Nothing,
-    /// The loaded value, the old value of an atomic access, the result of an SC, or the value of a
-    /// control and status register.
+    /// A number: what a load gives, what memory held before an atomic, what an SC gives, or what a
+    /// control and status register reads as.
     Value(u64),
 }

@@ -36,7 +36,9 @@ pub fn reset(hart: u8) -> Arch
     }
 }
 
-/// Enters a trap at the present instruction.
+/// Enters a trap at the present instruction. `tval` is what the trap's value register gets, mtval
+/// or stval. Below M a cause that medeleg or mideleg delegates goes to S, and every other trap to M
+/// (The RISC-V Instruction Set Manual, Volume II, sections 3.1.8 and 3.1.16).
 pub fn trap(a: &mut Arch, cause: u64, tval: u64)
     requires { IsArch a.old }
     ensures state { a.new ≡ trapped a.old cause tval }

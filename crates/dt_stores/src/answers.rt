@@ -3,14 +3,15 @@ use dt_record::Key;
 /// What a drain of a line did or would do.
 #[derive(Clone, Copy, Debug, PartialEq, Eq)]
 pub enum DrainAnswer {
-    /// The oldest waiting stores of the line are written: the bytes whose mask bit is set (bit i
-    /// for byte i). The others are 0.
+    /// The oldest waiting stores of the line are written. Bit i of the mask says whether they have
+    /// byte i of the line; a byte that they do not have is 0.
     Took { mask: u64, bytes: [u8; 64] },
     /// Fewer stores of the line wait than the drain counts: so many.
     Few { held: u32 },
     /// A store on another line, before a write-before-write fence, has to drain first. This is the
     /// `seq` of the oldest such.
     Barred { seq: u32 },
+    /// Memory was refused. Nothing is written.
     OutOfMemory,
 }
 

@@ -79,15 +79,15 @@ impl Stores {
         answer_of(self.entries.as_slice(), line, count)
     }
 
-    /// What a load in the cycle `at` has for a byte from the youngest store that covers it and that
-    /// no drain with a stamp of at most `at` has taken.
+    /// What a load in the cycle `at` has for a byte from a store of its own hart. That is the
+    /// youngest on the byte that still waits after the cycle: its drain, if any, is of a later one.
     pub fn forward(&self, addr: u64, at: u64) -> Option<Forward>
         ensures { (actions : List Action) → StandsFor self.now actions → result ≡ forward_after actions addr at }
     {
         forward_from(self.entries.as_slice(), addr, at)
     }
 
-    /// The seq of the oldest of these stores that no drain with a stamp of at most `at` has taken.
+    /// The seq of the oldest of these stores that still waits after the cycle `at`.
     pub fn oldest(&self, which: Which, at: u64) -> Option<u32>
         ensures { (actions : List Action) → StandsFor self.now actions → result ≡ oldest_after actions which at }
     {

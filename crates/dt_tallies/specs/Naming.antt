@@ -3,14 +3,11 @@ use Rattle.dt_record.specs.declared.keys.Key.{Key}
 use Rattle.dt_record.specs.declared.origins.Letters.{Letters}
 use Rattle.dt_record.specs.declared.origins.Sources.{Sources}
 use Rattle.dt_record.specs.Keys.{key_below}
+use Rattle.dt_record.specs.Letters.{has_letter}
 use Rattle.dt_verdict.specs.declared.tallies.Noted.{Noted}
 use Rattle.dt_tallies.specs.Counting.{is_below}
 
 -- Which records a report names, and in which order (this project's own).
-
--- some rule settled a departure at the record
-abbrev pub has_letter : Letters → Bool
-has_letter letters = letters.l || (letters.s || (letters.p || (letters.i || (letters.d || (letters.c || letters.z)))))
 
 -- a record is named where it has a letter, or where it read RAM (a load, an LR or an AMO): it then has sources
 abbrev pub is_named : Letters → Sources → Bool

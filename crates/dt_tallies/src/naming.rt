@@ -1,6 +1,6 @@
 ghost use Rattle.std.specs.Prelude.{◌≡◌, OnOk, IfOk};
 ghost use Rattle.dt_tallies.specs.Counting.{is_below};
-ghost use Rattle.dt_tallies.specs.Naming.{has_letter, is_named, named_notes, notes_by_key};
+ghost use Rattle.dt_tallies.specs.Naming.{is_named, named_notes, notes_by_key};
 
 use crate::counting::precedes;
 use dt_record::{Key, Letters, Sources};
@@ -12,13 +12,7 @@ use std::alloc::AllocError;
 pub fn is_named(letters: &Letters, sources: &Sources) -> bool
     ensures { result ≡ is_named letters.now sources.now }
 {
-    has_some(letters) || sources.count != 0
-}
-
-fn has_some(letters: &Letters) -> bool
-    ensures { result ≡ has_letter letters.now }
-{
-    letters.l || letters.s || letters.p || letters.i || letters.d || letters.c || letters.z
+    letters.has_any() || sources.count != 0
 }
 
 /// The notes of all harts, in any order, as a report has them: by key, and with a limit, as the key

@@ -2,7 +2,7 @@ ghost use Rattle.std.specs.Prelude.{◌≡◌};
 
 use std::marker::Model;
 
-/// A text. A contract sees it as the list of its bytes.
+/// One line of text. A contract sees it as the list of its bytes.
 #[derive(Debug, Drop)]
 pub struct Printed {
     text: Vec<u8>,
@@ -23,6 +23,7 @@ impl Printed {
         Printed { text }
     }
 
+    /// The bytes, all of ASCII, with the line feed at the end.
     pub fn bytes(&self) -> &[u8]
         ensures { result.now ≡ self.now }
     {

@@ -16,11 +16,11 @@ use std::alloc::Global;
 
 /// Does what the words say, on one thread: writes the answer and gives the exit status.
 ///
-/// 0 the check passed, or the file was written; 1 the check failed; 2 the words are not in the table;
-/// 3 the image is too long; 4 the probe file is malformed; 5 a read failed; 6 a write failed; 7 there
-/// was no memory; 8 the probe file has too many records or writes.
-/// A check that is refused has the first of these: that of the words, of the image, and of the probe
-/// file where it comes first.
+/// 0 the check passed, or the file was written; 1 the check failed; 2 the words are not in the
+/// table; 3 the image is too long; 4 the probe file is malformed; 5 a read failed; 6 a write
+/// failed; 7 there was no memory; 8 the probe file has too many records or writes. Of several
+/// refusals the first counts: that of the words, that of the image, and then the one that the probe
+/// file meets first. 6 stands over all of them, and 7 may come at any point.
 pub fn run_plain<I: Source, P: Source, O: Sink>(
     alloc: Global,
     words: &[String],

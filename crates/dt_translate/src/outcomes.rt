@@ -25,8 +25,9 @@ fn reached(ram_only: bool, answer: WalkAnswer) -> WalkAnswer
     }
 }
 
-/// The outcome of a translation after the first k writes: the walk's answer, with an access fault
-/// in place of a page address that is neither in RAM nor a device's or, with `ram_only`, not in RAM.
+/// The outcome of a translation after the first k writes. It is what the walk answers, unless that
+/// is an address at which there is nothing, or with `ram_only` one outside RAM: the access faults
+/// there.
 /// `ram_only` is for fetches, LR, SC and atomics.
 #[tactic(auto, unfolding(crate::specs::Outcomes::outcome_at))]
 pub fn outcome(moments: &Moments, k: u32, a: WalkArgs, ram_only: bool) -> WalkAnswer

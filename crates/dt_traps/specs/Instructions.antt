@@ -31,7 +31,7 @@ planned_as a bits None = Raises ILLEGAL_INSTRUCTION bits
 abbrev pub planned : Arch → (bits : ℕ) → Planned
 planned a bits = planned_as a bits (meaning_of bits)
 
--- LR is a load; SC and AMO are stores (Volume II, section 4.3.1)
+-- what an atomic's address is translated for: to load there by an LR, to store there by any other (Volume II, section 4.3.1)
 abbrev pub atomic_access : AtomicOp → Access
 atomic_access Lr = Load
 atomic_access Sc = Store

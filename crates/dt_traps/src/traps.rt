@@ -218,9 +218,15 @@ fn entry(cause: u64, tval: u64, found: Raised) -> Result<Letters, Misfit>
     Ok(letters_of(found.stale, is_interrupt(cause), zeroed))
 }
 
-/// Whether a hart in this state may enter the trap, and the letters of the rules that allow it: I for
-/// an interrupt, P where a fetch or a translation is of an older moment than the last of its span,
-/// and Z where tval is 0 in place of another value. The four numbers are those of a lawful record.
+/// Whether a hart in this state may enter the trap, and the letters of the rules that allow it: I
+/// for an interrupt, P where a fetch or a translation is of an older moment than the last of its
+/// span, and Z where tval is 0 in place of another value. The four numbers are those of a lawful
+/// record.
+///
+/// The first misfit counts: of Pc; of an interrupt Interrupt, which expects the enabled codes as
+/// bits of a mask; of an exception Fetch, with the numbers of `fetched` in dt_checks, and Cause,
+/// which expects the instruction's own cause where it has one, or else the one at the last moment
+/// of the window, or `NO_NUMBER` where there is none; and Tval. Found is what the record says.
 pub fn trap(
     m: &Moments,
     spans: TrapSpans,

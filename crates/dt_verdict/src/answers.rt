@@ -21,6 +21,7 @@ pub enum Refusal {
     Limit { what: What, number: u64 },
     /// A read of the file failed.
     ReadFault,
+    /// Memory was refused, to the stream or to the check.
     OutOfMemory,
 }
 

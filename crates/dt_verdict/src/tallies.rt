@@ -3,8 +3,8 @@ ghost use Rattle.std.specs.Prelude.{◌≡◌, ◌≤◌, length};
 use dt_record::{Key, Letters, Sources};
 use std::marker::Model;
 
-/// How many of a hart's records there are, of each kind. On a failure only records with a key below
-/// the failing one are counted.
+/// How many of a hart's records there are, of each kind. Where the check fails, these are the
+/// records that come before the failing one in the order of keys.
 #[derive(Clone, Copy, Debug, Default, PartialEq, Eq)]
 pub struct Counts {
     pub records: u32,
@@ -46,6 +46,7 @@ impl Model for HartCounts {
 }
 
 impl HartCounts {
+    /// The counts of at most 8 harts, hart 0 first.
     pub fn of(counts: Vec<Counts>) -> HartCounts
         requires { length counts.items ≤ 8 }
         ensures { result ≡ counts.items }
@@ -53,6 +54,7 @@ impl HartCounts {
         HartCounts { counts }
     }
 
+    /// The counts, hart 0 first.
     pub fn items(&self) -> &[Counts]
         ensures items { result.now ≡ self.now }
         ensures within { length self.now ≤ 8 }
@@ -60,6 +62,7 @@ impl HartCounts {
         self.counts.as_slice()
     }
 
+    /// Gives the counts back, hart 0 first. It takes no memory.
     pub fn into_vec(self) -> Vec<Counts>
         ensures { result.items ≡ self }
     {
@@ -83,18 +86,21 @@ impl Model for NotedRecords {
 }
 
 impl NotedRecords {
+    /// These records in this order: nothing is sorted and nothing left out.
     pub fn of(records: Vec<Noted>) -> NotedRecords
         ensures { result ≡ records.items }
     {
         NotedRecords { records }
     }
 
+    /// The records in their order.
     pub fn items(&self) -> &[Noted]
         ensures { result.now ≡ self.now }
     {
         self.records.as_slice()
     }
 
+    /// Gives the records back in their order. It takes no memory.
     pub fn into_vec(self) -> Vec<Noted>
         ensures { result.items ≡ self }
     {

@@ -58,6 +58,8 @@ impl Moments {
         is_above_all(&self.writes, w.key) && is_ram_line(w.line) && self.writes.len() < WRITE_LIMIT
     }
 
+    /// Adds a write as the newest one, where `can_add` says that it may be. An `Err` is want of
+    /// memory.
     pub fn add(&mut self, w: Write) -> Result<(), AllocError>
         requires { CanAdd self.old w }
         ensures added { OnOk result (self.new ≡ history self.old.image (self.old.writes ++ w ∷ [])) }

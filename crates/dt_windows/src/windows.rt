@@ -12,8 +12,8 @@ use std::marker::Model;
 /// The bytes of a page.
 const PAGE_LEN: u64 = 4096;
 
-/// The least moments from which a hart may translate and fetch, by its last fences. A moment is the
-/// number of first writes that have happened, and 0 where there was no fence.
+/// The least moments from which a hart may translate and fetch, by its last fences. At moment k the
+/// first k writes by their keys are done. Where there was no fence it is moment 0.
 #[derive(Debug, Drop)]
 pub struct Windows {
     instructions: u32,

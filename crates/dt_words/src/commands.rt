@@ -14,7 +14,7 @@ pub enum Task {
     Convert,
 }
 
-/// What words say. A command that comes later adds the fields of its options.
+/// What words ask for.
 #[derive(Debug, Drop)]
 pub struct Command {
     pub task: Task,
@@ -28,10 +28,12 @@ pub struct Command {
     pub probes: Option<String>,
 }
 
+/// Why words ask for nothing.
 #[derive(Clone, Copy, Debug, PartialEq, Eq)]
 pub enum WordsRefusal {
     /// The words are not in the table of commands.
     Usage,
+    /// The allocator refused memory, so it is not known what they ask for.
     OutOfMemory,
 }
 
