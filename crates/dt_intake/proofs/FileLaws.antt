@@ -1,21 +1,20 @@
-use Rattle.std.proofs.Common.{ℕ, ◌≡◌, ◌+◌, ◌≤◌, ◌==◌, Bool, true, false, suc, List, [], ◌∷◌, ◌++◌, length, take, drop, filter, nat_lt, nat_le, refl, sym, ap, ◌∙◌, subst, inl, inr, arith, eq-eqb, eqb-true}
+use Rattle.std.proofs.Common.{ℕ, ◌≡◌, ◌+◌, ◌≤◌, ◌==◌, Bool, suc, List, [], ◌∷◌, ◌++◌, length, drop, filter, nat_lt, nat_le, refl, sym, ap, ◌∙◌, subst, inl, inr, arith, eq-eqb, eqb-true}
 use Rattle.std.specs.List.{list_all}
 use Rattle.std.proofs.lemmas.Bool.{cases_Bool, cond-true, cond-false, eqb-false, ne_eqb}
 use Rattle.std.proofs.lemmas.List.{append_assoc, append-nil, take-append-drop}
 use Rattle.std.proofs.lemmas.List.Elements.{filter-append}
 use mathlib.Core.List.{IsPrefix}
 use Rattle.dt_record.specs.declared.records.Record.{Record}
-use Rattle.dt_record.specs.declared.writes.Note.{Note}
 use Rattle.dt_record.specs.declared.writes.Write.{Write}
 use Rattle.dt_record.specs.Keys.{records_of}
 use Rattle.dt_record.specs.ProbeFile.{AreRecords, stamped, no_stamps}
 use Rattle.dt_writes.specs.OwnWrites.{own_writes_from}
 use Rattle.dt_core.specs.Notes.{announced, hart_writes, writes_below}
 use Rattle.dt_core.specs.Sound.{writes_by}
-use Rattle.dt_intake.specs.Fronts.{last_stamp, MayBeNext, front_after}
+use Rattle.dt_intake.specs.Fronts.{last_stamp, MayBeNext, front_after, usable_front}
 use Rattle.dt_intake.specs.Intakes.{IntakeView, usable_of}
-use Rattle.dt_intake.specs.Told.{told_of, IsMarked, IsTold}
-use Rattle.dt_intake.specs.Laws.{ToldIsAnnounced}
+use Rattle.dt_intake.specs.Told.{told_of, IsMarked}
+use Rattle.dt_intake.specs.Laws.{FileRecordsAreUsable, ToldIsAnnounced}
 use Rattle.dt_intake.proofs.FrontLaws.{last_stamp-push, may_be_next-true, front_after-pass, front_after-begins, front_after-behind, late-front_after, own-front_after}
 use Rattle.dt_intake.proofs.Splits.{filter-pass, filter-drop}
 use Rattle.dt_intake.proofs.WriteLaws.{own_writes_from-append, own_writes_from-parts, below-own_writes_from, own-writes_by}
@@ -55,14 +54,27 @@ length-filter p (x ∷ xs) = elim (cases_Bool (p x)) [
   | inr fails ↦ let same = ap length (filter-drop p x xs fails) in let rest = length-filter p xs in omega arith
 ]
 
--- Of a hart with these records, of which the first were taken: they are all usable.
+usable-records_of : (harts hart : ℕ) (file : List Record) → AreRecords harts no_stamps file → length file ≤ 4_194_304
+    → front_after hart 0 0 (records_of hart file) ≡ records_of hart file
+usable-records_of harts hart file each few =
+    let size : length (records_of hart file) ≤ length file = length-filter (λ (r : Record). r.hart == hart) file in
+    front-records_of harts hart 0 0 no_stamps file each refl (omega arith)
+
+-- the first of usable records are
+usable-first : (hart : ℕ) (taken records : List Record) → front_after hart 0 0 records ≡ records → IsPrefix taken records → usable_front hart taken ≡ taken
+usable-first hart taken records usable first =
+    front_after-begins hart 0 0 taken first.0 (ap (front_after hart 0 0) first.1 ∙ usable ∙ sym first.1)
+
+pub FileRecords-usable : FileRecordsAreUsable
+FileRecords-usable harts hart file taken each few first = usable-first hart taken (records_of hart file) (usable-records_of harts hart file each few) first
+
+-- Of a hart with these records the first were taken, and all are usable.
 record IsWhole (v : IntakeView) (records : List Record) : Type 0 where
   first : IsPrefix v.taken records
   usable : front_after v.hart 0 0 records ≡ records
 
 IsWhole-taken : (v : IntakeView) (records : List Record) → IsWhole v records → usable_of v ≡ v.taken
-IsWhole-taken v records whole =
-    front_after-begins v.hart 0 0 v.taken whole.first.0 (ap (front_after v.hart 0 0) whole.first.1 ∙ whole.usable ∙ sym whole.first.1)
+IsWhole-taken v records whole = usable-first v.hart v.taken records whole.usable whole.first
 
 own-from_front : (hart : ℕ) (rs : List Record) → front_after hart 0 0 rs ≡ rs → writes_by rs ≡ own_writes_from 0 rs
 own-from_front hart rs whole =
@@ -104,8 +116,7 @@ marked-below v records stamp writes whole m =
 pub Told-announced : ToldIsAnnounced
 Told-announced harts file v notes each few first all told =
     let records = records_of v.hart file in
-    let size : length records ≤ length file = length-filter (λ (r : Record). r.hart == v.hart) file in
-    let usable : front_after v.hart 0 0 records ≡ records = front-records_of harts v.hart 0 0 no_stamps file each refl (omega arith) in
+    let usable = usable-records_of harts v.hart file each few in
     let whole : IsWhole v records = record { first = first; usable = usable } in
     let taken = IsWhole-taken v records whole in
     record {

@@ -1,4 +1,4 @@
-use Rattle.std.proofs.Common.{ℕ, ◌≡◌, ◌+◌, ◌-◌, ◌≤◌, ◌==◌, ◌&&◌, ◌⊎◌, Bool, true, false, cond, not, Option, Some, None, List, [], ◌∷◌, ◌++◌, length, map, take, drop, filter, refl, sym, ap, ◌∙◌, subst, inl, inr, arith, eq-eqb, eqb-true}
+use Rattle.std.proofs.Common.{ℕ, ◌≡◌, ◌-◌, ◌≤◌, ◌==◌, ◌⊎◌, Bool, true, false, cond, Option, Some, None, List, [], ◌∷◌, ◌++◌, length, map, take, drop, refl, sym, ap, ◌∙◌, subst, inl, inr, arith, eq-eqb, eqb-true}
 use Rattle.std.specs.Prelude.{◌≢◌, option_map, option_to_list}
 use Rattle.std.specs.List.{slice_get, list_all}
 use Rattle.std.proofs.lemmas.Bool.{and_parts, both_ways, cases_Bool, ne_eqb}
@@ -10,14 +10,13 @@ use Rattle.dt_record.specs.declared.writes.Write.{Write}
 use Rattle.dt_record.specs.declared.writes.Note.{Note}
 use Rattle.dt_record.specs.declared.writes.Note.TheVariants.{Wrote, Mark, End, Cut, Failure}
 use Rattle.dt_writes.specs.OwnWrites.{own_writes_from}
-use Rattle.dt_core.specs.Machine.{last_mark}
 use Rattle.dt_core.specs.Notes.{write_in, announced, hart_writes}
 use Rattle.dt_intake.specs.Fronts.{usable_front}
-use Rattle.dt_intake.specs.Intakes.{IntakeView, new_intake, is_feed_end, with_record, usable_of, is_over, reach_of, news_of, after_telling}
+use Rattle.dt_intake.specs.Intakes.{IntakeView, is_feed_end, usable_of, is_over, reach_of, news_of}
 use Rattle.dt_intake.specs.Told.{is_of, own_notes, told_of, IsMarked, IsEnded, IsTold}
 use Rattle.dt_intake.specs.Laws.{NothingIsTold, TakingKeepsTold, RoomKeepsTold, TellingGoesOn, OwnNotesDecide, NewsIsOfOneHart}
-use Rattle.dt_intake.proofs.FrontLaws.{front_after-first, front_after-grows, front_after-whole, own-front_after}
-use Rattle.dt_intake.proofs.Splits.{filter-pass, filter-drop, filter-all, all_drop, prefix-length, not_last, last-split, StandsIn, StandsBehind, append-split, single, KeptAt, filter-split}
+use Rattle.dt_intake.proofs.FrontLaws.{front_after-grows, front_after-whole, own-front_after}
+use Rattle.dt_intake.proofs.Splits.{filter-pass, filter-drop, filter-all, all_drop, prefix-length, not_last, last-split, StandsIn, append-split, single, KeptAt, filter-split}
 use Rattle.dt_intake.proofs.WriteLaws.{own_writes_from-parts, own-own_writes_from}
 
 -- What notes tell of a hart.

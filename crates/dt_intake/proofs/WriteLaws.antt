@@ -1,7 +1,7 @@
-use Rattle.std.proofs.Common.{ℕ, ◌≡◌, ◌+◌, ◌≤◌, ◌<◌, ◌==◌, Bool, true, false, not, suc, Option, Some, None, List, [], ◌∷◌, ◌++◌, length, get_or, map, take, drop, filter, nat_lt, nat_le, refl, sym, ap, ◌∙◌, arith, eq-eqb, eqb-true}
+use Rattle.std.proofs.Common.{ℕ, ◌≡◌, ◌+◌, ◌≤◌, ◌<◌, ◌==◌, Bool, true, false, suc, Option, Some, None, List, [], ◌∷◌, ◌++◌, length, get_or, map, take, drop, nat_lt, nat_le, refl, sym, ap, ◌∙◌, arith, eq-eqb, eqb-true}
 use Rattle.std.specs.Prelude.{option_to_list}
 use Rattle.std.specs.List.{list_all}
-use Rattle.std.proofs.lemmas.Bool.{and_parts, and_from, cond-true, cond-false, leb-true, le-ltb}
+use Rattle.std.proofs.lemmas.Bool.{and_parts, and_from, cond-true, leb-true, le-ltb}
 use Rattle.std.proofs.lemmas.List.{append_assoc, append-nil, length-take-le, map-append, take_more, take-append-drop}
 use mathlib.Core.List.{IsPrefix}
 use Rattle.dt_record.specs.declared.keys.Key.{Key}

@@ -14,6 +14,11 @@ use Rattle.dt_intake.specs.Told.{own_notes, IsTold}
 abbrev pub UsableFrontIsLongest : Type 0
 UsableFrontIsLongest = (hart : ℕ) (taken : List Record) → IsLongestUsable hart taken (usable_front hart taken)
 
+-- where what was taken of a hart is a front of its records in a file, all of it is usable
+abbrev pub FileRecordsAreUsable : Type 0
+FileRecordsAreUsable = (harts hart : ℕ) (file taken : List Record) → AreRecords harts no_stamps file → length file ≤ 4_194_304
+    → IsPrefix taken (records_of hart file) → usable_front hart taken ≡ taken
+
 -- before anything is taken, no notes tell it
 abbrev pub NothingIsTold : Type 0
 NothingIsTold = (hart : ℕ) → IsTold (new_intake hart) []

@@ -1,9 +1,14 @@
 //! Laws of the definitions, for the crates above. The functions do nothing.
-ghost use Rattle.dt_intake.specs.Laws.{UsableFrontIsLongest, NothingIsTold, TakingKeepsTold, RoomKeepsTold, TellingGoesOn, OwnNotesDecide, NewsIsOfOneHart, ToldIsAnnounced};
+ghost use Rattle.dt_intake.specs.Laws.{UsableFrontIsLongest, FileRecordsAreUsable, NothingIsTold, TakingKeepsTold, RoomKeepsTold, TellingGoesOn, OwnNotesDecide, NewsIsOfOneHart, ToldIsAnnounced};
 
 /// The usable records are the longest front of the taken ones in which each may come next.
 pub fn usable_front_is_longest()
     ensures { UsableFrontIsLongest }
+{}
+
+/// Where what was taken of a hart is a front of its records in a file, all of it is usable.
+pub fn file_records_are_usable()
+    ensures { FileRecordsAreUsable }
 {}
 
 /// Before anything is taken there is nothing to be told.

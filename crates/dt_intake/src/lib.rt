@@ -11,6 +11,7 @@ mod tests;
 
 pub use intakes::Intake;
 pub use laws::{
-    news_is_of_one_hart, nothing_is_told, own_notes_decide, room_keeps_told, taking_keeps_told,
-    telling_goes_on, told_is_announced, usable_front_is_longest,
+    file_records_are_usable, news_is_of_one_hart, nothing_is_told, own_notes_decide,
+    room_keeps_told, taking_keeps_told, telling_goes_on, told_is_announced,
+    usable_front_is_longest,
 };

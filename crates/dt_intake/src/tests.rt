@@ -1,6 +1,7 @@
 use crate::{
-    Intake, news_is_of_one_hart, nothing_is_told, own_notes_decide, room_keeps_told,
-    taking_keeps_told, telling_goes_on, told_is_announced, usable_front_is_longest,
+    Intake, file_records_are_usable, news_is_of_one_hart, nothing_is_told, own_notes_decide,
+    room_keeps_told, taking_keeps_told, telling_goes_on, told_is_announced,
+    usable_front_is_longest,
 };
 use dt_record::{Body, Key, Note, Record, Write};
 use std::alloc::{AllocError, Global};
@@ -114,6 +115,7 @@ fn tells_nothing_from_an_unusable_record_on(rt: HostRuntime) -> Result<(), Fail>
 #[test]
 fn laws_can_be_called(_rt: HostRuntime) {
     usable_front_is_longest();
+    file_records_are_usable();
     nothing_is_told();
     taking_keeps_told();
     room_keeps_told();

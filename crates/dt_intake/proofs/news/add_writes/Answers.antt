@@ -1,4 +1,4 @@
-use Rattle.std.proofs.Common.{◌≡◌, ◌+◌, ◌++◌, map, ap, ◌∙◌, arith}
+use Rattle.std.proofs.Common.{arith}
 use Rattle.dt_intake.proofs.WriteLaws.{told-more}
 use Rattle.dt_intake.proofs.news.add_writes.Goals as goal
 

@@ -1,4 +1,4 @@
-use Rattle.std.proofs.Common.{◌≤◌, Bool, List, ◌++◌, length, take, ap, ◌∙◌, arith}
+use Rattle.std.proofs.Common.{Bool, List, ◌++◌, ap, ◌∙◌, arith}
 use Rattle.dt_record.specs.declared.records.Record.{Record}
 use Rattle.dt_intake.specs.Fronts.{usable_front}
 use Rattle.dt_intake.specs.Intakes.{IntakeView, is_over, news_from, usable_of}

@@ -1,7 +1,7 @@
 use Rattle.std.proofs.Common.{List, sym, ap, ◌∙◌, subst}
 use Rattle.dt_record.specs.declared.records.Record.{Record}
-use Rattle.dt_intake.specs.Fronts.{AreUsable, usable_front}
-use Rattle.dt_intake.specs.Intakes.{IntakeView, usable_of}
+use Rattle.dt_intake.specs.Fronts.{AreUsable}
+use Rattle.dt_intake.specs.Intakes.{usable_of}
 use Rattle.dt_intake.proofs.Counting.{IsCounted-front, IsCounted-len}
 use Rattle.dt_intake.proofs.FrontLaws.{AreUsable-front}
 use Rattle.dt_intake.proofs.intakes.Intake.usable.Goals as goal
