@@ -1,0 +1,6 @@
+mod Counting
+mod FileLaws
+mod FrontLaws
+mod Splits
+mod TellingLaws
+mod WriteLaws

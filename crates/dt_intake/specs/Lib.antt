@@ -1,0 +1,4 @@
+pub mod Fronts
+pub mod Intakes
+pub mod Laws
+pub mod Told

@@ -1,0 +1,44 @@
+//! Which of the taken records are usable.
+ghost use Rattle.std.specs.Prelude.{◌≡◌, ◌==◌, ◌&&◌, [], ◌∷◌, ◌++◌, length};
+ghost use Rattle.dt_intake.specs.Fronts.{last_stamp, may_be_next, usable_front};
+
+use dt_record::{Record, lawful};
+
+/// How many records of one hart a file may have.
+const RECORD_LIMIT: usize = 4_194_304;
+
+/// The stamp of the last record, and 0 where there is none.
+fn last_stamp(records: &[Record]) -> u64
+    ensures { result ≡ last_stamp 0 records.now }
+{
+    match records.last() {
+        Some(event) => event.stamp,
+        None => 0,
+    }
+}
+
+/// Whether the record may be the one with this number of the hart, after one with this stamp.
+fn may_be_next(hart: u8, seq: usize, stamp: u64, event: &Record) -> bool
+    ensures { result ≡ may_be_next hart seq stamp event.now }
+{
+    seq < RECORD_LIMIT && lawful(event) && event.hart == hart && stamp <= event.stamp
+}
+
+/// Whether all taken records are usable, of which there are so many, and this one too after them.
+fn goes_on(hart: u8, taken: &[Record], usable_len: usize, event: &Record) -> bool
+    ensures { result ≡ ((usable_len == length taken.now) && may_be_next hart usable_len (last_stamp 0 taken.now) event.now) }
+{
+    usable_len == taken.len() && may_be_next(hart, usable_len, last_stamp(taken), event)
+}
+
+/// How many records are usable once this one is taken.
+pub fn usable_len_with(hart: u8, taken: &[Record], usable_len: usize, event: &Record) -> usize
+    requires { usable_len ≡ length (usable_front hart taken.now) }
+    ensures { result ≡ length (usable_front hart (taken.now ++ event.now ∷ [])) }
+{
+    if goes_on(hart, taken, usable_len, event) {
+        usable_len + 1
+    } else {
+        usable_len
+    }
+}
