@@ -12,11 +12,11 @@ use Rattle.dt_core.specs.Sound.{Lists, IsSound}
 use Rattle.dt_writes.specs.Apart.{are_apart}
 use Rattle.dt_settled.specs.Settling.{SettledView, new_settled, is_below, Stands, Continues, TellBelow}
 
--- a new memory stands for any writes, behind no notes
+-- a new memory has seen no notes, whatever all writes are
 abbrev pub SeeingStarts : Type 0
 SeeingStarts = (image : List ℕ) (all : List Write) → Stands (new_settled image) [] all
 
--- a memory behind all notes stands for the same writes when more notes follow
+-- a memory that has seen all notes has seen so many of them when more follow
 abbrev pub SeeingGoesOn : Type 0
 SeeingGoesOn = (v : SettledView) (notes more : List Note) (all : List Write) → v.seen ≡ length notes
     → Stands v notes all → Stands v (take v.seen (notes ++ more)) all

@@ -31,7 +31,8 @@ is_below (Some least) stamp = nat_lt stamp least
 abbrev pub AreTold : List Write → List Write → List Note → Type 0
 AreTold settled waiting notes = by_key (settled ++ waiting) ≡ by_key (announced notes)
 
--- A memory behind these notes: its settled writes are the first of all, and with the waiting ones they are those announced.
+-- A memory that has seen these notes: its settled writes are the first of all, and with the waiting ones they are those that
+-- the notes announce.
 pub record Stands (v : SettledView) (notes : List Note) (all : List Write) : Type 0 where
   pub front : IsPrefix v.writes all
   pub told : AreTold v.writes v.waiting notes
@@ -53,12 +54,13 @@ pub record ArePromised (image : List ℕ) (notes : List Note) (least : Option �
   pub apart : IsTrue (are_apart (announced notes))
   pub exact : TellBelow least notes all
 
--- where that is promised, a memory goes on standing for all writes, and lacks none below the mark
+-- Where that is promised, a memory that has seen the first notes comes to have seen all of them, and it lacks no write below
+-- the mark.
 abbrev pub Settles : SettledView → SettledView → List Note → Option ℕ → Type 0
 Settles old new notes least = (all : List Write) → ArePromised old.image notes least all
     → Stands old (take old.seen notes) all → Stands new notes all × Continues new.writes least all
 
--- where that is promised, a memory goes on standing for all writes, though it may have seen but some of the notes
+-- where that is promised, what the memory has seen may be but some more of the notes, and its settled writes are still the first of all
 abbrev pub StaysTrue : SettledView → SettledView → List Note → Option ℕ → Type 0
 StaysTrue old new notes least = (all : List Write) → ArePromised old.image notes least all
     → Stands old (take old.seen notes) all → Stands new (take new.seen notes) all

@@ -3,12 +3,12 @@ ghost use Rattle.dt_settled.specs.Laws.{SeeingStarts, SeeingGoesOn, EarlyWritesH
 
 use dt_writes::writes_stand_in_order;
 
-/// Before its first look a memory stands for any writes.
+/// A new memory stands for no notes and for any writes.
 pub fn seeing_starts()
     ensures { SeeingStarts }
 {}
 
-/// What a memory stands for behind all notes, it stands for when more notes follow.
+/// A memory that stands for all notes stands for so many of them when more follow.
 pub fn seeing_goes_on()
     ensures { SeeingGoesOn }
 {}
@@ -25,7 +25,7 @@ pub fn sound_notes_are_apart()
     writes_stand_in_order();
 }
 
-/// Notes that hold exactly the writes of a file below a mark keep what a look is promised of it.
+/// Where notes hold exactly the writes of a file below a mark, they tell them as a look is promised.
 pub fn file_writes_are_told()
     ensures { FileWritesAreTold }
 {}

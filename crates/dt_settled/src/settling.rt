@@ -46,8 +46,8 @@ impl Settled {
 
     /// Takes the writes of the notes that it has not seen, and lets those below the least mark
     /// settle in the order of their keys, or all where there is none. A write that memory cannot take
-    /// is left out. What has settled stays, whatever the marks do. After want of memory some of the
-    /// notes may be seen, and some of the writes may have settled.
+    /// is left out. What has settled stays, whatever the marks do. After want of memory it has seen
+    /// some of the notes, and a later look goes on from there.
     pub fn see(&mut self, notes: &[Note], least: Option<u64>) -> Result<(), AllocError>
         requires { self.old.seen ≤ length notes.now }
         ensures settles { OnOk result (Settles self.old self.new notes.now least) }
