@@ -1,0 +1,7 @@
+mod Entries
+mod Insertion
+mod Moving
+mod Orders
+mod Settlement
+mod SoundNotes
+mod TakingIn
