@@ -1,3 +1,4 @@
+pub mod Asking
 pub mod Exists
 pub mod Found
 pub mod Fronts

@@ -1,7 +1,8 @@
-ghost use Rattle.std.specs.Prelude.{◌≡◌, ◌≤◌, ◌↔◌, None, [], option_map, IfOk, IsTrue, IsSome, IsNone};
+ghost use Rattle.std.specs.Prelude.{◌≡◌, ◌≢◌, ◌≤◌, ◌↔◌, None, [], option_map, IfOk, IsTrue, IsSome, IsNone};
 ghost use Rattle.std.specs.Option.{ForSome};
 ghost use Rattle.dt_record.specs.Streams.{Continues, TakesAnswer, Rose, IsFresh};
 ghost use Rattle.dt_record.specs.declared.streams.Next.{Next};
+ghost use Rattle.dt_probe_file.specs.Asking.{HadToRead};
 ghost use Rattle.dt_probe_file.specs.Fronts.{IsSound};
 ghost use Rattle.dt_probe_file.specs.Parts.{whole};
 ghost use Rattle.dt_probe_file.specs.Told.{AreToldOf, answers_of, ended_by, left_of, progress_of};
@@ -101,7 +102,20 @@ impl<S: Source> Probes for FileProbes<S> {
         self.ended.is_some()
     }
 
-    fn next(&mut self) -> Next {
+    // The trait's clauses, and then this stream's own: it takes no memory, and it reads only where what
+    // it holds leaves the answer open.
+    fn next(&mut self) -> Next
+        requires { IsNone self.old.ended }
+        ensures step { Continues (progress_of self.old.opened self.old.ended) result (progress_of self.new.opened self.new.ended) }
+        ensures told { TakesAnswer (left_of self.old.opened self.old.ended (whole self.old.held (S.left self.old.source))) result
+            (left_of self.new.opened self.new.ended (whole self.new.held (S.left self.new.source))) }
+        ensures rising { S.faults self.old.source ≤ S.faults self.new.source }
+        ensures fault { result ≡ Next.ReadFault → Rose (S.faults self.old.source) (S.faults self.new.source) }
+        ensures needed { result ≡ Next.ReadFault
+            → HadToRead self.old.opened self.old.held (S.left self.old.source) (S.left self.new.source) }
+        ensures no_want { result ≢ Next.OutOfMemory }
+        ensures same_lent { S.lent self.new.source ≡ S.lent self.old.source }
+    {
         let step = match &self.opened {
             None => step_header(&mut self.source, &mut self.held),
             Some(opened) => step_behind(&mut self.source, &mut self.held, opened),
