@@ -90,6 +90,8 @@ impl<S: Source + Drop> FileProbes<S> {
 }
 
 impl<S: Source> Probes for FileProbes<S> {
+    ghost use Rattle.dt_probe_file.specs.FileStream.{held_in, opened_in, source_of};
+
     ghost progress = { λ p. progress_of p.opened p.ended };
 
     ghost left = { λ p. left_of p.opened p.ended (whole p.held (S.left p.source)) };
@@ -102,19 +104,19 @@ impl<S: Source> Probes for FileProbes<S> {
         self.ended.is_some()
     }
 
-    // The trait's clauses, and then this stream's own: it takes no memory, and it reads only where what
-    // it holds leaves the answer open.
+    // Beside the trait's clauses: it takes no memory, and it reads only where what it holds leaves the
+    // answer open.
     fn next(&mut self) -> Next
-        requires { IsNone self.old.ended }
-        ensures step { Continues (progress_of self.old.opened self.old.ended) result (progress_of self.new.opened self.new.ended) }
-        ensures told { TakesAnswer (left_of self.old.opened self.old.ended (whole self.old.held (S.left self.old.source))) result
-            (left_of self.new.opened self.new.ended (whole self.new.held (S.left self.new.source))) }
-        ensures rising { S.faults self.old.source ≤ S.faults self.new.source }
-        ensures fault { result ≡ Next.ReadFault → Rose (S.faults self.old.source) (S.faults self.new.source) }
-        ensures needed { result ≡ Next.ReadFault
-            → HadToRead self.old.opened self.old.held (S.left self.old.source) (S.left self.new.source) }
+        requires { IsNone (⟦<FileProbes<S> as Probes>⟧.progress self.old).ended }
+        ensures step { Continues (⟦<FileProbes<S> as Probes>⟧.progress self.old) result (⟦<FileProbes<S> as Probes>⟧.progress self.new) }
+        ensures told { TakesAnswer (⟦<FileProbes<S> as Probes>⟧.left self.old) result (⟦<FileProbes<S> as Probes>⟧.left self.new) }
+        ensures rising { ⟦<FileProbes<S> as Probes>⟧.faults self.old ≤ ⟦<FileProbes<S> as Probes>⟧.faults self.new }
+        ensures fault { result ≡ Next.ReadFault
+            → Rose (⟦<FileProbes<S> as Probes>⟧.faults self.old) (⟦<FileProbes<S> as Probes>⟧.faults self.new) }
+        ensures needed { result ≡ Next.ReadFault → HadToRead (opened_in self.old) (held_in self.old)
+            (S.left (source_of self.old)) (S.left (source_of self.new)) }
         ensures no_want { result ≢ Next.OutOfMemory }
-        ensures same_lent { S.lent self.new.source ≡ S.lent self.old.source }
+        ensures same_lent { ⟦<FileProbes<S> as Probes>⟧.lent self.new ≡ ⟦<FileProbes<S> as Probes>⟧.lent self.old }
     {
         let step = match &self.opened {
             None => step_header(&mut self.source, &mut self.held),

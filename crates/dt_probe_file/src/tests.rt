@@ -177,8 +177,14 @@ fn what_is_held_is_answered_before_a_read(rt: HostRuntime) -> Result<(), Fail> {
     let mut wrong = WIDE;
     wrong[16] = 0xee;
     let answers = answers_in(rt.alloc(), &wrong, 64, &[1])?;
-    assert_eq!(rt; answers.as_slice(), [header, Next::Malformed { offset: 16 }].as_slice());
+    assert_eq!(rt;
+        answers.as_slice(),
+        [header, Next::Malformed { offset: 16 }].as_slice()
+    );
     let answers = answers_in(rt.alloc(), &WIDE, 64, &[1])?;
-    assert_eq!(rt; answers.as_slice(), [header, Next::Event(commit()), Next::ReadFault].as_slice());
+    assert_eq!(rt;
+        answers.as_slice(),
+        [header, Next::Event(commit()), Next::ReadFault].as_slice()
+    );
     Ok(())
 }
