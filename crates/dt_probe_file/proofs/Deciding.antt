@@ -11,7 +11,7 @@ use Rattle.dt_record.specs.Spelling.{Version, Two, record_bytes, short_bytes, do
 use Rattle.dt_record.specs.Answers.{Reading, GoesOn}
 use Rattle.dt_record_bytes.specs.declared.decoded.Decoded.{Decoded}
 use Rattle.dt_record_bytes.specs.declared.decoded.Decoded.TheVariants as answers
-use Rattle.dt_record_bytes.specs.ShortForms.{StartsWith, IsGot}
+use Rattle.dt_record_bytes.specs.ShortForms.{StartsWith, IsGot, IsUnfinished}
 use Rattle.dt_record_bytes.proofs.Apart.{doubles_are_one}
 use Rattle.dt_record_bytes.proofs.Fields.{double_at_front, length-double}
 use Rattle.dt_probe_file.specs.HeaderFields.{get_or_behind}
@@ -108,6 +108,7 @@ front_of_end s bytes tag fronts.Begun is = (
     no_end = λ rest e. nothing_ends bytes s.events rest is e;
   },
   omega (arith, is),
+  inr (inl (tag, is)),
 )
 front_of_end s bytes tag fronts.Wrong is = λ more. record { no_record = λ r rest goes. end_is_no_record s bytes tag more r rest goes; no_end = λ rest e. is more rest e }
 
@@ -149,6 +150,7 @@ begun_of_short s bytes other is = (
     no_end = λ rest e. other_is_no_end bytes s.events rest other e;
   },
   is.1,
+  inr (inr is.2),
 )
 
 pub wrong_of_bad : (s : Reading) (bytes : List ℕ) (at : ℕ) → (get_or bytes 0 0 ≡ 255 → ⊥) → 0 < length bytes → IsDecoded s.version s.last bytes (answers.Bad at) → IsFront s bytes fronts.Wrong
@@ -164,6 +166,7 @@ begun_of_nothing s = (
     no_end = λ rest e. empty_is_no_end s.events rest e;
   },
   omega arith,
+  inl refl,
 )
 
 -- the answer of version 2 for the last stamp of the hart that the bytes name
@@ -171,15 +174,16 @@ pub short_decoded : (last : ℕ → ℕ) (l : ℕ) (bytes : List ℕ) (x : Decod
     → ((r : Record) (len : ℕ) → x ≡ answers.Got r len → IsGot l bytes r len)
     → ((r : Record) (len : ℕ) → x ≡ answers.Got r len → (len ≤ 1024) × (len ≤ length bytes))
     → (x ≡ answers.Short → length bytes < 1024)
+    → (x ≡ answers.Short → IsUnfinished bytes)
     → (x ≡ answers.Short → (r : Record) (rest : List ℕ) → StartsWith l bytes r rest → ⊥)
     → ((at : ℕ) → x ≡ answers.Bad at → (more : List ℕ) (r : Record) (rest : List ℕ) → StartsWith l (bytes ++ more) r rest → ⊥)
     → IsDecoded Two last bytes x
-short_decoded last l bytes (answers.Got r len) named unnamed got lens few not_yet for_good =
+short_decoded last l bytes (answers.Got r len) named unnamed got lens few cut not_yet for_good =
     let is = short_got last l bytes r len named (got r len refl) in
     let long = lens r len refl in
     (is.0, is.1, long.0, long.1)
-short_decoded last l bytes answers.Short named unnamed got lens few not_yet for_good = (short_lacks last l bytes named (not_yet refl), few refl)
-short_decoded last l bytes (answers.Bad at) named unnamed got lens few not_yet for_good =
+short_decoded last l bytes answers.Short named unnamed got lens few cut not_yet for_good = (short_lacks last l bytes named (not_yet refl), few refl, cut refl)
+short_decoded last l bytes (answers.Bad at) named unnamed got lens few cut not_yet for_good =
     elim (cases_lt (length bytes) 2) [
       | inl less ↦ never_unnamed last l bytes (unnamed less) less (for_good at refl)
       | inr two ↦ never_named last l bytes named two (for_good at refl)

@@ -1,8 +1,9 @@
 -- A header from its bytes.
-use Rattle.std.proofs.Common.{◌≡◌, ℕ, ◌<◌, ◌≤◌, Bool, true, false, not, IsTrue, List, ◌++◌, length, drop, get_or, Some, sym, ap, ◌∙◌, subst, arith}
+use Rattle.std.proofs.Common.{◌≡◌, ℕ, zero, suc, ◌+◌, ◌-◌, ◌<◌, ◌≤◌, inl, inr, Bool, true, false, not, IsTrue, List, [], ◌∷◌, ◌++◌, length, drop, get_or, Some, refl, sym, ap, ◌∙◌, subst, arith}
 use Rattle.std.specs.Prelude.{◌==◌}
 use Rattle.std.proofs.Math.ListN.{get_or-append}
-use Rattle.std.proofs.lemmas.List.{length-append}
+use Rattle.std.proofs.lemmas.Bool.{cases_lt}
+use Rattle.std.proofs.lemmas.List.{length-append, length-drop}
 use Rattle.dt_record.specs.Spelling.{half, word, flag}
 use Rattle.dt_record.specs.Spelling as spelling
 use Rattle.dt_record.specs.ProbeFile.{header_bytes}
@@ -10,8 +11,8 @@ use Rattle.dt_probe_file.specs.declared.reading.Version.{Version}
 use Rattle.dt_probe_file.specs.declared.reading.Version.TheVariants.{One, Two}
 use Rattle.dt_probe_file.specs.declared.headers.Heading.TheVariants.{Whole, Begun, Wrong}
 use Rattle.dt_probe_file.specs.Fronts.{version_of}
-use Rattle.dt_probe_file.specs.Headers.{IsHeading, header_byte, field_start}
-use Rattle.dt_probe_file.specs.HeaderFields.{AreRight, IsHeader, fault_at, no_fault, header_of}
+use Rattle.dt_probe_file.specs.Headers.{IsHeading, header_byte, field_start, plain_header}
+use Rattle.dt_probe_file.specs.HeaderFields.{AreRight, IsHeader, fault_at, no_fault, header_of, get_or_behind}
 
 abbrev pub FollowsByte : Version → ℕ → Type 0
 FollowsByte One b = b ≡ 1
@@ -50,10 +51,58 @@ whole_header x k v all within are is =
     let harts = harts_are x h in
     (told_header x v h.version h.harts h.wide h.rest h.spelled is, subst (λ (n : ℕ). 1 ≤ n) (sym harts) h.some_hart, subst (λ (n : ℕ). n ≤ 8) (sym harts) h.few_harts, long)
 
+-- A header from its beginning.
+
+plain_right : (i : ℕ) → i < 16 → IsTrue (header_byte i (get_or plain_header i 0))
+plain_right zero lt = refl
+plain_right (suc zero) lt = refl
+plain_right (suc (suc zero)) lt = refl
+plain_right (suc (suc (suc zero))) lt = refl
+plain_right (suc (suc (suc (suc zero)))) lt = refl
+plain_right (suc (suc (suc (suc (suc zero))))) lt = refl
+plain_right (suc (suc (suc (suc (suc (suc zero)))))) lt = refl
+plain_right (suc (suc (suc (suc (suc (suc (suc zero))))))) lt = refl
+plain_right (suc (suc (suc (suc (suc (suc (suc (suc zero)))))))) lt = refl
+plain_right (suc (suc (suc (suc (suc (suc (suc (suc (suc zero))))))))) lt = refl
+plain_right (suc (suc (suc (suc (suc (suc (suc (suc (suc (suc zero)))))))))) lt = refl
+plain_right (suc (suc (suc (suc (suc (suc (suc (suc (suc (suc (suc zero))))))))))) lt = refl
+plain_right (suc (suc (suc (suc (suc (suc (suc (suc (suc (suc (suc (suc zero)))))))))))) lt = refl
+plain_right (suc (suc (suc (suc (suc (suc (suc (suc (suc (suc (suc (suc (suc zero))))))))))))) lt = refl
+plain_right (suc (suc (suc (suc (suc (suc (suc (suc (suc (suc (suc (suc (suc (suc zero)))))))))))))) lt = refl
+plain_right (suc (suc (suc (suc (suc (suc (suc (suc (suc (suc (suc (suc (suc (suc (suc zero))))))))))))))) lt = refl
+plain_right (suc (suc (suc (suc (suc (suc (suc (suc (suc (suc (suc (suc (suc (suc (suc (suc i)))))))))))))))) lt = absurd (omega arith)
+
+behind_at : (x y : List ℕ) (i j : ℕ) → length x + j ≡ i → get_or (x ++ y) i 0 ≡ get_or y j 0
+behind_at [] y i j e = ap (λ (n : ℕ). get_or y n 0) (let same : i ≡ j = omega arith in same)
+behind_at (b ∷ x) y zero j e = absurd (omega arith)
+behind_at (b ∷ x) y (suc i) j e = behind_at x y i j (omega arith)
+
+-- the bytes of the plain header behind those that are there
+others : List ℕ → List ℕ
+others x = drop (length x) plain_header
+
+filled_right : (x : List ℕ) → length x < 16 → AreRight x (length x) → AreRight (x ++ others x) 16
+unfolding others
+filled_right x few are i lt =
+    elim (cases_lt i (length x)) [
+      | inl there ↦ subst (λ (b : ℕ). IsTrue (header_byte i b)) (sym (get_or-append x (others x) 0 i there)) (are i there)
+      | inr behind ↦
+          let place : length x + (i - length x) ≡ i = omega arith in
+          let byte : get_or (x ++ others x) i 0 ≡ get_or plain_header i 0 =
+          behind_at x (others x) i (i - length x) place ∙ get_or_behind plain_header (length x) (i - length x) ∙ ap (λ (n : ℕ). get_or plain_header n 0) place in
+          subst (λ (b : ℕ). IsTrue (header_byte i b)) (sym byte) (plain_right i lt)
+    ]
+
+filled_long : (x : List ℕ) → length x < 16 → 16 ≤ length (x ++ others x)
+unfolding others
+filled_long x few = omega (arith, length-append x (others x), length-drop (length x) plain_header)
+
 pub begun_header : (x : List ℕ) (k field : ℕ) → k < 16 → k ≡ length x → AreRight x k → field ≡ field_start k → IsHeading x (Begun field)
 begun_header x k field few all are is =
     let fault = fault_at x k few (omega (arith, all)) are (λ less. absurd (omega (arith, all, less))) in
-    (fault ∙ ap (λ (n : ℕ). Some n) (sym is), omega (arith, few, all))
+    let short : length x < 16 = omega (arith, few, all) in
+    let right : AreRight x (length x) = subst (AreRight x) all are in
+    (fault ∙ ap (λ (n : ℕ). Some n) (sym is), (short, others x, no_fault (x ++ others x) (filled_long x short) (filled_right x short right)))
 
 pub wrong_header : (x : List ℕ) (k field : ℕ) → k < 16 → k < length x → AreRight x k → (k < 16 → k < length x → header_byte k (get_or x k 0) ≡ false) → field ≡ field_start k → IsHeading x (Wrong field)
 wrong_header x k field few within are wrong is more =

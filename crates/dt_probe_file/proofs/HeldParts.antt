@@ -1,11 +1,12 @@
 -- Bytes that are held in a part of a longer list.
 use Rattle.std.specs.Prelude.{◌==◌}
-use Rattle.std.proofs.Common.{◌≡◌, ℕ, zero, suc, Bool, true, false, not, ◌+◌, ◌-◌, ◌<◌, ◌≤◌, List, [], ◌++◌, length, take, drop, Option, Some, None, IfSome, refl, sym, ap, ◌∙◌, subst, append_assoc, arith}
+use Rattle.std.proofs.Common.{◌≡◌, ℕ, zero, suc, Bool, true, false, not, ◌+◌, ◌-◌, ◌<◌, ◌≤◌, List, [], ◌++◌, length, take, drop, Option, Some, None, option_map, IfSome, Result, Ok, Err, OnErr, refl, sym, ap, ◌∙◌, subst, append_assoc, arith}
 use Rattle.std.proofs.lemmas.List.{drop-take, length-take, drop-drop, append-nil}
 use Rattle.std.proofs.lemmas.Bool.{eqb-true}
 use Rattle.std.proofs.Math.Seq.{take-add}
+use Rattle.dt_source.specs.declared.traits.Failed.{Failed}
 use Rattle.dt_source.specs.Known.{TakesFrom}
-use Rattle.dt_probe_file.specs.Parts.{part, whole}
+use Rattle.dt_probe_file.specs.Parts.{ReadsOn, part, whole}
 
 pub taken_away : (bytes : List ℕ) (start end count : ℕ) (held : List ℕ) → part start end bytes ≡ held → count ≤ length held → part (start + count) end bytes ≡ drop count held
 taken_away bytes start end count held is within =
@@ -59,3 +60,25 @@ no_more n e = eqb-true n 0 (not_back (n == 0) e)
 
 pub part_same : (start end count : ℕ) (bytes : List ℕ) → count ≡ 0 → part start (end + count) bytes ≡ part start end bytes
 part_same start end count bytes none = ap (λ (n : ℕ). part start n bytes) (let e : end + count ≡ end = omega arith in e)
+
+-- Reads one after another.
+
+pub reads_stay : (held grown : List ℕ) (before after : Option (List ℕ)) → grown ≡ held → after ≡ before → ReadsOn held before grown after
+reads_stay held grown before None same left = ([], same ∙ sym (append-nil held), sym left)
+reads_stay held grown before (Some rest) same left = ([], same ∙ sym (append-nil held), sym left)
+
+pub stay_on_err : (r : Result Bool Failed) (held grown : List ℕ) (before after : Option (List ℕ)) → grown ≡ held → after ≡ before → OnErr r ((grown ≡ held) × (after ≡ before))
+stay_on_err (Ok more) held grown before after same left = tt
+stay_on_err (Err e) held grown before after same left = (same, left)
+
+taken_twice : (before between after : Option (List ℕ)) (xs ys : List ℕ) → TakesFrom before xs between → TakesFrom between ys after → TakesFrom before (xs ++ ys) after
+taken_twice before between None xs ys first second = first ∙ ap (option_map (λ rest. xs ++ rest)) second
+taken_twice before between (Some rest) xs ys first second =
+    first ∙ ap (option_map (λ rest. xs ++ rest)) second ∙ ap Some (sym (append_assoc xs ys rest))
+
+pub reads_twice : (held middle grown : List ℕ) (before between after : Option (List ℕ)) → ReadsOn held before middle between → ReadsOn middle between grown after → ReadsOn held before grown after
+reads_twice held middle grown before between after first second = (
+  first.0 ++ second.0,
+  second.1 ∙ ap (λ (z : List ℕ). z ++ second.0) first.1 ∙ append_assoc held first.0 second.0,
+  taken_twice before between after first.0 second.0 first.2 second.2,
+)

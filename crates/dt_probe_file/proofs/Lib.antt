@@ -1,3 +1,4 @@
+pub mod AskingFor
 pub mod Deciding
 pub mod Files
 pub mod Heading

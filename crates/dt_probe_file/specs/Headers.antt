@@ -1,4 +1,4 @@
-use Rattle.std.specs.Prelude.{ℕ, ◌≡◌, ◌<◌, ◌≤◌, ◌==◌, ◌||◌, Bool, if◌then◌else◌, Some, List, [], ◌∷◌, ◌++◌, length, drop, nat_lt, slice_index}
+use Rattle.std.specs.Prelude.{ℕ, ◌≡◌, ◌<◌, ◌≤◌, ◌==◌, ◌||◌, Bool, if◌then◌else◌, None, Some, List, [], ◌∷◌, ◌++◌, length, drop, nat_lt, slice_index}
 use Rattle.dt_record.specs.ProbeFile.{header_bytes}
 use Rattle.dt_record.specs.Answers.{starts_with_any, header_fault}
 use Rattle.dt_probe_file.specs.declared.headers.Heading.{Heading}
@@ -28,9 +28,13 @@ field_start place =
     else if nat_lt place 12 then 11
     else 12
 
+-- fewer bytes than a header has, and more make a header of them
+abbrev pub IsCutHeader : List ℕ → Type 0
+IsCutHeader bytes = (length bytes < 16) × (more : List ℕ) × (header_fault (bytes ++ more) ≡ None)
+
 -- a whole header, the beginning of one, or what is neither, whatever follows: with the place of the field that isn't whole or wrong
 abbrev pub IsHeading : List ℕ → Heading → Type 0
 IsHeading bytes (Whole version harts wide) =
     (bytes ≡ header_bytes (version_of version) harts wide ++ drop 16 bytes) × (1 ≤ harts) × (harts ≤ 8) × (16 ≤ length bytes)
-IsHeading bytes (Begun field) = (header_fault bytes ≡ Some field) × (length bytes < 16)
+IsHeading bytes (Begun field) = (header_fault bytes ≡ Some field) × IsCutHeader bytes
 IsHeading bytes (Wrong field) = (more : List ℕ) → header_fault (bytes ++ more) ≡ Some field

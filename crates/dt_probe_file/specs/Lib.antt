@@ -1,4 +1,6 @@
+pub mod Asking
 pub mod Exists
+pub mod FileStream
 pub mod Found
 pub mod Fronts
 pub mod HeaderFields

@@ -1,8 +1,9 @@
-ghost use Rattle.std.specs.Prelude.{◌≡◌, ◌≤◌};
+ghost use Rattle.std.specs.Prelude.{◌≡◌, ◌≤◌, None, Some};
 ghost use Rattle.dt_source.specs.Faults.{Rose};
+ghost use Rattle.dt_probe_file.specs.Asking.{HadToRead};
 ghost use Rattle.dt_probe_file.specs.Fronts.{IsSound, reading_of};
 ghost use Rattle.dt_probe_file.specs.Found.{IsFound, IsHeard};
-ghost use Rattle.dt_probe_file.specs.Parts.{whole};
+ghost use Rattle.dt_probe_file.specs.Parts.{ReadsOn, whole};
 
 use crate::fronts::{Front, front_of};
 use crate::headers::{Heading, heading_of};
@@ -45,6 +46,7 @@ pub(crate) fn hear<S: Source>(source: &mut S, held: &mut Held) -> Heard
     ensures whole { whole held.new (S.left source.new) ≡ whole held.old (S.left source.old) }
     ensures heard { IsHeard held.new (S.left source.new) result }
     ensures fault { result ≡ Heard.Failed → Rose (S.faults source.old) (S.faults source.new) }
+    ensures needed { result ≡ Heard.Failed → HadToRead None held.old (S.left source.old) (S.left source.new) }
     ensures never_falls { S.faults source.old ≤ S.faults source.new }
     ensures same_lent { S.lent source.new ≡ S.lent source.old }
 {
@@ -76,8 +78,10 @@ pub(crate) fn hear<S: Source>(source: &mut S, held: &mut Held) -> Heard
 pub(crate) fn find<S: Source>(source: &mut S, held: &mut Held, opened: &Opened) -> Found
     requires { IsSound opened.now }
     ensures whole { whole held.new (S.left source.new) ≡ whole held.old (S.left source.old) }
+    ensures reads { ReadsOn held.old (S.left source.old) held.new (S.left source.new) }
     ensures found { IsFound (reading_of opened.now) held.new (S.left source.new) result }
     ensures fault { result ≡ Found.Failed → Rose (S.faults source.old) (S.faults source.new) }
+    ensures needed { result ≡ Found.Failed → HadToRead (Some opened.now) held.old (S.left source.old) (S.left source.new) }
     ensures never_falls { S.faults source.old ≤ S.faults source.new }
     ensures same_lent { S.lent source.new ≡ S.lent source.old }
 {

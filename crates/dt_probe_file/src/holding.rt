@@ -1,6 +1,6 @@
 ghost use Rattle.std.specs.Prelude.{◌≡◌, ◌<◌, ◌≤◌, ◌+◌, ◌-◌, ◌++◌, [], true, false, length, drop, take, option_map, IfOk, IfSome, OnErr};
 ghost use Rattle.dt_source.specs.Faults.{Rose};
-ghost use Rattle.dt_probe_file.specs.Parts.{part, whole};
+ghost use Rattle.dt_probe_file.specs.Parts.{ReadsOn, part, whole};
 
 use dt_source::{Failed, Source, read_behind};
 use std::alloc::{AllocError, Global};
@@ -73,9 +73,11 @@ fn read_on<S: Source>(
     ensures order { start.new ≤ end.new }
     ensures within { end.new ≤ 4096 }
     ensures whole { whole (part start.new end.new bytes.new) (S.left source.new) ≡ whole (part start.old end.old bytes.old) (S.left source.old) }
+    ensures reads { ReadsOn (part start.old end.old bytes.old) (S.left source.old) (part start.new end.new bytes.new) (S.left source.new) }
     ensures more { result ≡ Ok true → end.old - start.old < end.new - start.new }
     ensures end { result ≡ Ok false → (part start.new end.new bytes.new ≡ part start.old end.old bytes.old) × IfSome (S.left source.new) (λ rest. rest ≡ []) }
     ensures failed_only { OnErr result (Rose (S.faults source.old) (S.faults source.new)) }
+    ensures failed_stays { OnErr result ((part start.new end.new bytes.new ≡ part start.old end.old bytes.old) × (S.left source.new ≡ S.left source.old)) }
     ensures never_falls { S.faults source.old ≤ S.faults source.new }
     ensures same_lent { S.lent source.new ≡ S.lent source.old }
 {
@@ -117,9 +119,11 @@ impl Held {
     pub(crate) fn read<S: Source>(&mut self, source: &mut S) -> Result<bool, Failed>
         requires { length self.old < 1024 }
         ensures whole { whole self.new (S.left source.new) ≡ whole self.old (S.left source.old) }
+        ensures reads { ReadsOn self.old (S.left source.old) self.new (S.left source.new) }
         ensures more { result ≡ Ok true → length self.old < length self.new }
         ensures end { result ≡ Ok false → (self.new ≡ self.old) × IfSome (S.left source.new) (λ rest. rest ≡ []) }
         ensures failed_only { OnErr result (Rose (S.faults source.old) (S.faults source.new)) }
+        ensures failed_stays { OnErr result ((self.new ≡ self.old) × (S.left source.new ≡ S.left source.old)) }
         ensures never_falls { S.faults source.old ≤ S.faults source.new }
         ensures same_lent { S.lent source.new ≡ S.lent source.old }
     {

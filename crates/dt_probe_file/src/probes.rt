@@ -1,7 +1,8 @@
-ghost use Rattle.std.specs.Prelude.{◌≡◌, ◌≤◌, ◌↔◌, None, [], option_map, IfOk, IsTrue, IsSome, IsNone};
+ghost use Rattle.std.specs.Prelude.{◌≡◌, ◌≢◌, ◌≤◌, ◌↔◌, None, [], option_map, IfOk, IsTrue, IsSome, IsNone};
 ghost use Rattle.std.specs.Option.{ForSome};
 ghost use Rattle.dt_record.specs.Streams.{Continues, TakesAnswer, Rose, IsFresh};
 ghost use Rattle.dt_record.specs.declared.streams.Next.{Next};
+ghost use Rattle.dt_probe_file.specs.Asking.{HadToRead};
 ghost use Rattle.dt_probe_file.specs.Fronts.{IsSound};
 ghost use Rattle.dt_probe_file.specs.Parts.{whole};
 ghost use Rattle.dt_probe_file.specs.Told.{AreToldOf, answers_of, ended_by, left_of, progress_of};
@@ -90,6 +91,8 @@ impl<S: Source + Drop> FileProbes<S> {
 }
 
 impl<S: Source> Probes for FileProbes<S> {
+    ghost use Rattle.dt_probe_file.specs.FileStream.{held_in, opened_in, source_of};
+
     ghost progress = { λ p. progress_of p.opened p.ended };
 
     ghost left = { λ p. left_of p.opened p.ended (whole p.held (S.left p.source)) };
@@ -102,7 +105,20 @@ impl<S: Source> Probes for FileProbes<S> {
         self.ended.is_some()
     }
 
-    fn next(&mut self) -> Next {
+    // Beside the trait's clauses: it takes no memory, and it reads only where what it holds leaves the
+    // answer open.
+    fn next(&mut self) -> Next
+        requires { IsNone (⟦<FileProbes<S> as Probes>⟧.progress self.old).ended }
+        ensures step { Continues (⟦<FileProbes<S> as Probes>⟧.progress self.old) result (⟦<FileProbes<S> as Probes>⟧.progress self.new) }
+        ensures told { TakesAnswer (⟦<FileProbes<S> as Probes>⟧.left self.old) result (⟦<FileProbes<S> as Probes>⟧.left self.new) }
+        ensures rising { ⟦<FileProbes<S> as Probes>⟧.faults self.old ≤ ⟦<FileProbes<S> as Probes>⟧.faults self.new }
+        ensures fault { result ≡ Next.ReadFault
+            → Rose (⟦<FileProbes<S> as Probes>⟧.faults self.old) (⟦<FileProbes<S> as Probes>⟧.faults self.new) }
+        ensures needed { result ≡ Next.ReadFault → HadToRead (opened_in self.old) (held_in self.old)
+            (S.left (source_of self.old)) (S.left (source_of self.new)) }
+        ensures no_want { result ≢ Next.OutOfMemory }
+        ensures same_lent { ⟦<FileProbes<S> as Probes>⟧.lent self.new ≡ ⟦<FileProbes<S> as Probes>⟧.lent self.old }
+    {
         let step = match &self.opened {
             None => step_header(&mut self.source, &mut self.held),
             Some(opened) => step_behind(&mut self.source, &mut self.held, opened),

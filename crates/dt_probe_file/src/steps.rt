@@ -1,5 +1,7 @@
 ghost use Rattle.std.specs.Prelude.{◌≡◌, ◌≢◌, ◌<◌, ◌≤◌, ◌++◌, ℕ, List, [], true, false, None, Some, IfSome, OnErr, length};
+ghost use Rattle.dt_record.specs.Spelling.{end_bytes};
 ghost use Rattle.dt_record.specs.Streams.{Continues, Rose};
+ghost use Rattle.dt_probe_file.specs.Asking.{HadToRead};
 ghost use Rattle.dt_probe_file.specs.declared.fronts.Front.TheVariants as fronts;
 ghost use Rattle.dt_probe_file.specs.Fronts.{IsSound, IsFront, reading_of};
 ghost use Rattle.dt_probe_file.specs.Parts.{whole};
@@ -28,6 +30,7 @@ fn step_over(held: &mut Held, opened: &Opened, event: &Record, len: usize) -> St
     ensures step { Continues (progress_of (Some opened.now) None) result.answer (progress_of result.opened (ended_by result.answer)) }
     ensures sound { IfSome result.opened IsSound }
     ensures no_fault { result.answer ≢ Next.ReadFault }
+    ensures no_want { result.answer ≢ Next.OutOfMemory }
 {
     match too_many(opened, event) {
         Some(what) => {
@@ -54,6 +57,7 @@ fn is_more<S: Source>(source: &mut S, held: &mut Held) -> Result<bool, Failed>
     ensures more { result ≡ Ok true → 0 < length held.new }
     ensures none { result ≡ Ok false → (held.new ≡ []) × IfSome (S.left source.new) (λ rest. rest ≡ []) }
     ensures fault { OnErr result (Rose (S.faults source.old) (S.faults source.new)) }
+    ensures needed { OnErr result ((held.old ≡ []) × (S.left source.new ≡ S.left source.old)) }
     ensures never_falls { S.faults source.old ≤ S.faults source.new }
     ensures same_lent { S.lent source.new ≡ S.lent source.old }
 {
@@ -72,6 +76,8 @@ fn step_end<S: Source>(source: &mut S, held: &mut Held, opened: &Opened) -> Step
     ensures step { Continues (progress_of (Some opened.now) None) result.answer (progress_of result.opened (ended_by result.answer)) }
     ensures sound { IfSome result.opened IsSound }
     ensures fault { result.answer ≡ Next.ReadFault → Rose (S.faults source.old) (S.faults source.new) }
+    ensures needed { result.answer ≡ Next.ReadFault → (held.old ≡ end_bytes opened.now.events) × (S.left source.new ≡ S.left source.old) }
+    ensures no_want { result.answer ≢ Next.OutOfMemory }
     ensures never_falls { S.faults source.old ≤ S.faults source.new }
     ensures same_lent { S.lent source.new ≡ S.lent source.old }
 {
@@ -103,6 +109,8 @@ pub(crate) fn step_behind<S: Source>(source: &mut S, held: &mut Held, opened: &O
     ensures step { Continues (progress_of (Some opened.now) None) result.answer (progress_of result.opened (ended_by result.answer)) }
     ensures sound { IfSome result.opened IsSound }
     ensures fault { result.answer ≡ Next.ReadFault → Rose (S.faults source.old) (S.faults source.new) }
+    ensures needed { result.answer ≡ Next.ReadFault → HadToRead (Some opened.now) held.old (S.left source.old) (S.left source.new) }
+    ensures no_want { result.answer ≢ Next.OutOfMemory }
     ensures never_falls { S.faults source.old ≤ S.faults source.new }
     ensures same_lent { S.lent source.new ≡ S.lent source.old }
 {
@@ -126,6 +134,8 @@ pub(crate) fn step_header<S: Source>(source: &mut S, held: &mut Held) -> Step
     ensures step { Continues (progress_of None None) result.answer (progress_of result.opened (ended_by result.answer)) }
     ensures sound { IfSome result.opened IsSound }
     ensures fault { result.answer ≡ Next.ReadFault → Rose (S.faults source.old) (S.faults source.new) }
+    ensures needed { result.answer ≡ Next.ReadFault → HadToRead None held.old (S.left source.old) (S.left source.new) }
+    ensures no_want { result.answer ≢ Next.OutOfMemory }
     ensures never_falls { S.faults source.old ≤ S.faults source.new }
     ensures same_lent { S.lent source.new ≡ S.lent source.old }
 {

@@ -166,3 +166,25 @@ fn a_failing_read_ends_the_stream(rt: HostRuntime) -> Result<(), Fail> {
     }
     Ok(())
 }
+
+/// The first read gives the whole file and the second one fails: it comes only behind the end.
+#[test]
+fn what_is_held_is_answered_before_a_read(rt: HostRuntime) -> Result<(), Fail> {
+    let header = Next::Header {
+        harts: 1,
+        wide: false,
+    };
+    let mut wrong = WIDE;
+    wrong[16] = 0xee;
+    let answers = answers_in(rt.alloc(), &wrong, 64, &[1])?;
+    assert_eq!(rt;
+        answers.as_slice(),
+        [header, Next::Malformed { offset: 16 }].as_slice()
+    );
+    let answers = answers_in(rt.alloc(), &WIDE, 64, &[1])?;
+    assert_eq!(rt;
+        answers.as_slice(),
+        [header, Next::Event(commit()), Next::ReadFault].as_slice()
+    );
+    Ok(())
+}

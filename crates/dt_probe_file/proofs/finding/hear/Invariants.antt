@@ -1,5 +1,5 @@
 use Rattle.std.proofs.Common.{◌≡◌, ◌≤◌, ◌-◌, length}
-use Rattle.dt_probe_file.specs.Parts.{whole}
+use Rattle.dt_probe_file.specs.Parts.{ReadsOn, whole}
 use Rattle.dt_probe_file.proofs.finding.hear.Given as goal
 
 -- nothing was taken away
@@ -8,6 +8,7 @@ invariant-loop-version g l =
     let left = g.S.Source.left in
     record {
       whole : whole l.held (left l.source) ≡ whole l.fn.held (left l.fn.source);
+      reads : ReadsOn l.fn.held (left l.fn.source) l.held (left l.source);
       counted : g.S.Source.faults l.fn.source ≤ g.S.Source.faults l.source;
       same_lent : g.S.Source.lent l.source ≡ g.S.Source.lent l.fn.source;
     }

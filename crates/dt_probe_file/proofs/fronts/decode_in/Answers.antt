@@ -9,4 +9,4 @@ returns-in-Two c =
     subst (λ (v : Version). IsDecoded (version_of v) (λ hart. slice_index c.args.last.now hart) c.args.bytes.now c.decode2.result) (sym c.in-Two.is)
     (short_decoded (λ hart. slice_index c.args.last.now hart) c.last_of.result c.args.bytes.now c.decode2.result c.last_of.ensures.named c.last_of.ensures.unnamed
     (λ r len e. (c.decode2.ensures.got r len).0 e) (λ r len e. let h = c.decode2.ensures.got_len r len e in (omega (arith, h.2), h.1))
-    (λ e. let h = c.decode2.ensures.short_len e in omega (arith, h)) c.decode2.ensures.not_yet c.decode2.ensures.for_good)
+    (λ e. let h = c.decode2.ensures.short_len e in omega (arith, h)) c.decode2.ensures.short.0 c.decode2.ensures.not_yet c.decode2.ensures.for_good)
