@@ -124,5 +124,8 @@ fn the_first_bytes_that_differ_are_named(rt: HostRuntime) {
         expected: 8,
         found: 9,
     };
-    assert_eq!(rt; same_bytes(Reason::Refill, &[7, 8, 1], &[7, 9, 2]), Err(refused));
+    assert_eq!(rt;
+        same_bytes(Reason::Refill, &[7, 8, 1], &[7, 9, 2]),
+        Err(refused)
+    );
 }
