@@ -25,10 +25,10 @@ range-push n =
     ∙ map-range_with_len_more (λ (k : ℕ). k) 0 n n (omega arith)
     ∙ ap (λ (ks : List ℕ). ks ++ n ∷ []) (map-id (range_with_len 0 n))
 
-pub one_more : (held : History) (wide : Bool) (hart : ℕ) (records : List Record) (outcomes more : List Outcome) (outcome : Outcome) (before after : List Noted)
-    → AreRunsOf held wide hart records outcomes before → IsRunOf held wide hart records outcome before after → more ≡ outcomes ++ outcome ∷ []
+pub one_more : (held : History) (wide : Bool) (hart : ℕ) (records : List Record) (outcomes more : List Outcome) (outcome : Outcome) (before own after : List Noted)
+    → AreRunsOf held wide hart records outcomes before → IsRunOf held wide hart records outcome own → more ≡ outcomes ++ outcome ∷ [] → after ≡ before ++ own
     → AreRunsOf held wide (hart + 1) records more after
-one_more held wide hart records outcomes more outcome before after all one pushed = record {
+one_more held wide hart records outcomes more outcome before own after all one pushed added = record {
   runs = all.runs ++ one.run ∷ [];
   are_runs = record {
     harts_are =
@@ -44,7 +44,8 @@ one_more held wide hart records outcomes more outcome before after all one pushe
       ∙ ap (λ o. map (outcome_of records) all.runs ++ o ∷ []) one.outcome_is
       ∙ sym (map-append (outcome_of records) all.runs (one.run ∷ []));
   notes_are =
-      one.notes_are
+      added
+      ∙ ap (λ (ns : List Noted). before ++ ns) one.notes_are
       ∙ ap (λ (ns : List Noted). ns ++ notes_of records one.run) all.notes_are
       ∙ flat_map_more (notes_of records) [] all.runs one.run;
 }

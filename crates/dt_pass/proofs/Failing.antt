@@ -14,7 +14,8 @@ use Rattle.dt_judge.specs.Runs.{RunsTo}
 use Rattle.dt_verdict.specs.declared.verdicts.Failure.{Failure}
 use Rattle.dt_verdict.specs.declared.verdicts.Outcome.{Outcome}
 use Rattle.dt_verdict.specs.Verdict.{failures_of, IsVerdict}
-use Rattle.dt_pass.specs.Checked.{AreRuns, HartRun, IsRun, failure_at, failure_of, outcome_of}
+use Rattle.dt_runs.specs.Noting.{failure_at}
+use Rattle.dt_pass.specs.Checked.{AreRuns, HartRun, IsRun, failure_of, outcome_of}
 use Rattle.dt_pass.specs.Laws.{AllAllowed, FailsAt, FailIsFirst, IsNotSooner, PassIsAllAllowed}
 
 -- ---- one hart

@@ -1,7 +1,6 @@
 mod AllHarts
 mod Failing
 mod HartRuns
-mod LoadMoments
 mod OneCheck
 mod OwnRecords
 mod Underway

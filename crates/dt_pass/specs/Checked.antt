@@ -1,15 +1,16 @@
-use Rattle.std.specs.Prelude.{ℕ, ◌≡◌, ◌+◌, Bool, if◌then◌else◌, Option, None, Some, option_map, option_and_then, List, [], ◌∷◌, ◌++◌, length, map, slice_get, All}
+use Rattle.std.specs.Prelude.{ℕ, ◌≡◌, Bool, Option, None, Some, List, length, map, All}
 use Rattle.std.specs.List.{flat_map, range_with_len}
 use Rattle.dt_record.specs.declared.keys.Key.{Key}
 use Rattle.dt_record.specs.declared.records.Record.{Record}
 use Rattle.dt_record.specs.declared.streams.Next.{Next}
-use Rattle.dt_record.specs.Keys.{key_of, records_of}
+use Rattle.dt_record.specs.Keys.{records_of}
 use Rattle.dt_record.specs.Streams.{Progress}
 use Rattle.dt_record.specs.Writes.{writes_of}
 use Rattle.dt_rules.specs.declared.misfits.Misfit.{Misfit}
 use Rattle.dt_loads.specs.declared.reading.Passed.{Passed}
 use Rattle.dt_judge.specs.Runs.{RunsTo}
 use Rattle.dt_verdict.specs.declared.answers.Checked.{Checked}
+use Rattle.dt_runs.specs.Noting.{failure_after, notes_from}
 use Rattle.dt_verdict.specs.declared.tallies.Noted.{Noted}
 use Rattle.dt_verdict.specs.declared.verdicts.Failure.{Failure}
 use Rattle.dt_verdict.specs.declared.verdicts.Outcome.{Outcome}
@@ -17,7 +18,7 @@ use Rattle.dt_verdict.specs.declared.verdicts.Verdict.{Verdict}
 use Rattle.dt_verdict.specs.declared.verdicts.Verdict.TheVariants.{Pass, Fail}
 use Rattle.dt_verdict.specs.Verdict.{verdict_of, IsVerdict}
 use Rattle.dt_tallies.specs.Counting.{counts_of}
-use Rattle.dt_tallies.specs.Naming.{is_named, named_notes}
+use Rattle.dt_tallies.specs.Naming.{named_notes}
 use Rattle.dt_pass.specs.Reading.{HasCome}
 
 -- What checking the records of a probe file comes to (this project's own).
@@ -29,28 +30,13 @@ pub record HartRun : Type 0 where
   pub allowed : List Passed
   pub refused : Option Misfit
 
--- the failure of a record with this key
-abbrev pub failure_at : Key → Misfit → Failure
-failure_at key m = record { key = key; reason = m.reason; expected = m.expected; found = m.found }
-
 -- the failure of a hart with these records: its first record that is not allowed, where there is one
 abbrev pub failure_of : List Record → HartRun → Option Failure
-failure_of own run =
-    option_and_then (λ m. option_map (λ r. failure_at (key_of (length run.allowed) r) m) (slice_get own (length run.allowed))) run.refused
+failure_of own run = failure_after own (length run.allowed) run.refused
 
 -- the outcome of a hart of a file with these records
 abbrev pub outcome_of : List Record → HartRun → Outcome
 outcome_of records run = record { hart = run.hart; failure = failure_of (records_of run.hart records) run }
-
--- what a report says of an allowed record, where it names it
-abbrev pub note_of : Key → Passed → List Noted
-note_of key p = if is_named p.letters p.sources then record { key = key; letters = p.letters; sources = p.sources } ∷ [] else []
-
--- what it says of the allowed ones among a hart's records, after so many of them
-abbrev pub notes_from : ℕ → List Record → List Passed → List Noted
-notes_from seq [] allowed = []
-notes_from seq (r ∷ rs) [] = []
-notes_from seq (r ∷ rs) (p ∷ ps) = note_of (key_of seq r) p ++ notes_from (seq + 1) rs ps
 
 -- the notes of a hart of a file with these records
 abbrev pub notes_of : List Record → HartRun → List Noted

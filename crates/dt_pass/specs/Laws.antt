@@ -8,7 +8,8 @@ use Rattle.dt_judge.specs.Runs.{RunsTo}
 use Rattle.dt_verdict.specs.declared.answers.Checked.{Checked}
 use Rattle.dt_verdict.specs.declared.verdicts.Failure.{Failure}
 use Rattle.dt_verdict.specs.declared.verdicts.Verdict.TheVariants.{Pass, Fail}
-use Rattle.dt_pass.specs.Checked.{IsChecked, failure_at}
+use Rattle.dt_runs.specs.Noting.{failure_at}
+use Rattle.dt_pass.specs.Checked.{IsChecked}
 
 -- What a verdict says of the harts of a file (this project's own).
 

@@ -1,16 +1,11 @@
-ghost use Rattle.std.specs.Prelude.{◌≡◌, ◌≤◌, ◌<◌, ◌++◌, [], IfOk, OnOk};
-ghost use Rattle.dt_record.specs.Lawful.{IsLawful};
-ghost use Rattle.dt_pass.specs.Checked.{note_of};
-ghost use Rattle.dt_pass.specs.Running.{AreJudgeable, AreRunsOf, IsRunOf, IsStep};
+ghost use Rattle.std.specs.Prelude.{◌≡◌, [], IfOk};
+ghost use Rattle.dt_runs.specs.RunView.{outcome_in};
+ghost use Rattle.dt_pass.specs.Running.{AreJudgeable, AreRunsOf, IsRunOf};
 
-use dt_judge::{Hart, Judged, judge};
-use dt_record::{Key, Letters, Record, Sources};
-use dt_reference::actions_go_on;
-use dt_sources::least_choice_is_least;
-use dt_tallies::is_named;
-use dt_verdict::{Failure, Noted, Outcome};
+use dt_record::Record;
+use dt_runs::{HartRun, file_records_are_own, runs_come_to_an_end};
+use dt_verdict::{Noted, Outcome};
 use dt_versions::Moments;
-use dt_writes::{own_writes_are_of_records, writes_stand_in_order};
 use std::alloc::{AllocError, Global};
 
 /// Judges all harts, hart 0 first. The notes are those of hart 0, then those of hart 1, and so on.
@@ -28,96 +23,35 @@ pub(crate) fn run_all(
 {
     let mut outcomes = Vec::new(alloc);
     for hart in 0..harts {
-        outcomes.push(run(alloc, m, hart, wide, records, notes)?)?;
+        let run = run_one(alloc, m, hart, wide, records)?;
+        outcomes.push(run.outcome())?;
+        let mut own = run.into_notes();
+        notes.append(&mut own)?;
     }
     Ok(outcomes)
 }
 
 /// Judges the records of one hart in their order, up to the first that is not allowed.
-fn run(
+fn run_one(
     alloc: Global,
     m: &Moments,
     number: u8,
     wide: bool,
     records: &[Record],
-    notes: &mut Vec<Noted>,
-) -> Result<Outcome, AllocError>
+) -> Result<HartRun, AllocError>
     requires { AreJudgeable m.now records.now }
-    ensures { IfOk result (λ outcome. IsRunOf m.now wide number records.now outcome notes.old.items notes.new.items) }
+    ensures { IfOk result (λ run. IsRunOf m.now wide number records.now (outcome_in run) run.notes) }
 {
-    actions_go_on();
-    least_choice_is_least();
-    own_writes_are_of_records();
-    writes_stand_in_order();
-    let mut hart = Hart::new(alloc, number, wide);
+    file_records_are_own();
+    runs_come_to_an_end();
+    let mut run = HartRun::new(alloc, number, wide);
     for event in records {
         if event.hart == number {
-            if let Some(failure) = step(&mut hart, m, event, notes)? {
-                return Ok(Outcome {
-                    hart: number,
-                    failure: Some(failure),
-                });
+            run.judge(m, event)?;
+            if run.has_failed() {
+                return Ok(run);
             }
         }
     }
-    Ok(Outcome {
-        hart: number,
-        failure: None,
-    })
-}
-
-/// Judges a hart's next record.
-fn step(
-    hart: &mut Hart,
-    m: &Moments,
-    event: &Record,
-    notes: &mut Vec<Noted>,
-) -> Result<Option<Failure>, AllocError>
-    requires lawful { IsLawful event.now }
-    requires its { event.now.hart ≡ hart.old.arch.hart }
-    requires in_time { hart.old.stamp ≤ event.now.stamp }
-    requires room { hart.old.seq < 4194304 }
-    ensures { IfOk result (λ failure. IsStep hart.old hart.new m.now event.now notes.old.items notes.new.items failure) }
-{
-    let key = Key {
-        stamp: event.stamp,
-        hart: event.hart,
-        seq: hart.seq(),
-    };
-    match judge(hart, m, event) {
-        Judged::Fine { letters, sources } => {
-            note(notes, key, letters, sources)?;
-            Ok(None)
-        }
-        Judged::Fail {
-            reason,
-            expected,
-            found,
-        } => Ok(Some(Failure {
-            key,
-            reason,
-            expected,
-            found,
-        })),
-        Judged::OutOfMemory => Err(AllocError),
-    }
-}
-
-/// Notes an allowed record, where a report names it.
-fn note(
-    notes: &mut Vec<Noted>,
-    key: Key,
-    letters: Letters,
-    sources: Sources,
-) -> Result<(), AllocError>
-    ensures { OnOk result (notes.new.items ≡ notes.old.items ++ note_of key (record { letters = letters; sources = sources })) }
-{
-    if is_named(&letters, &sources) {
-        notes.push(Noted {
-            key,
-            letters,
-            sources,
-        })?;
-    }
-    Ok(())
+    Ok(run)
 }

@@ -1,0 +1,6 @@
+mod Ending
+mod FileRecords
+mod GoingOn
+mod Longer
+mod Places
+mod Starting

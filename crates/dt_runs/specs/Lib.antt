@@ -1,0 +1,5 @@
+pub mod Laws
+pub mod Noting
+pub mod RunView
+pub mod Runs
+pub mod Stepping
