@@ -15,11 +15,7 @@ use std::alloc::Global;
 
 /// The bytes of the file of a stream that comes to its end; else the answer that it stopped at.
 /// Where memory was refused, it gives that in its place.
-fn file_of<P: Probes>(
-    alloc: Global,
-    version: FileVersion,
-    probes: &mut P,
-) -> Result<Vec<u8>, Next>
+fn file_of<P: Probes>(alloc: Global, version: FileVersion, probes: &mut P) -> Result<Vec<u8>, Next>
     requires { IsFresh (P.progress probes.old) }
     ensures file { IfOk result (λ bytes. IfSome (P.left probes.old)
         (λ answers. IsFileOf (version_of version) answers bytes.items)) }
