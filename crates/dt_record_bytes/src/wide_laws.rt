@@ -50,54 +50,76 @@ fn fits_body(body: &Body)
             bits,
             cause,
             tval,
-        } => {
-            let _numbers = (*pc, *bits, *cause, *tval);
-        }
-        Body::Regs { pc, x } => {
-            let _pc = *pc;
-            fits_doubles(x);
-        }
-        Body::Csrs { mode, v } => {
-            let _mode = *mode;
-            fits_doubles(v);
-        }
-        Body::Load { retire, at, paddr } => {
-            let _numbers = (*at, *paddr);
-            fits_retire(retire);
-        }
+        } => fits_trap(*pc, *bits, *cause, *tval),
+        Body::Regs { pc, x } => fits_regs(*pc, x),
+        Body::Csrs { mode, v } => fits_csrs(*mode, v),
+        Body::Load { retire, at, paddr } => fits_load(retire, *at, *paddr),
         Body::Store {
             pc,
             bits,
             paddr,
             value,
-        } => {
-            let _numbers = (*pc, *bits, *paddr, *value);
-        }
+        } => fits_store(*pc, *bits, *paddr, *value),
         Body::Atomic {
             retire,
             paddr,
             width,
+            wrote,
             new,
-            ..
-        } => {
-            let _numbers = (*paddr, *width, *new);
-            fits_retire(retire);
-        }
+        } => fits_atomic(retire, *paddr, *width, *wrote, *new),
         Body::Drain {
             line,
             mask,
             count,
             bytes,
-        } => {
-            let _numbers = (*line, *mask, *count);
-            fits_line(bytes);
-        }
-        Body::Refill { line, bytes } => {
-            let _line = *line;
-            fits_line(bytes);
-        }
+        } => fits_drain(*line, *mask, *count, bytes),
+        Body::Refill { line, bytes } => fits_refill(*line, bytes),
         Body::Beat => {}
     }
+}
+
+fn fits_trap(pc: u64, bits: u32, cause: u64, tval: u64)
+    ensures { FitsBody (Body.Trap pc bits cause tval) }
+{}
+
+fn fits_regs(pc: u64, x: &[u64; 31])
+    ensures { FitsBody (Body.Regs pc x.now) }
+{
+    fits_doubles(x);
+}
+
+fn fits_csrs(mode: u8, v: &[u64; 17])
+    ensures { FitsBody (Body.Csrs mode v.now) }
+{
+    fits_doubles(v);
+}
+
+fn fits_load(retire: &Retire, at: u64, paddr: u64)
+    ensures { FitsBody (Body.Load retire.now at paddr) }
+{
+    fits_retire(retire);
+}
+
+fn fits_store(pc: u64, bits: u32, paddr: u64, value: u64)
+    ensures { FitsBody (Body.Store pc bits paddr value) }
+{}
+
+fn fits_atomic(retire: &Retire, paddr: u64, width: u8, wrote: bool, new: u64)
+    ensures { FitsBody (Body.Atomic retire.now paddr width wrote new) }
+{
+    fits_retire(retire);
+}
+
+fn fits_drain(line: u64, mask: u64, count: u16, bytes: &[u8; 64])
+    ensures { FitsBody (Body.Drain line mask count bytes.now) }
+{
+    fits_line(bytes);
+}
+
+fn fits_refill(line: u64, bytes: &[u8; 64])
+    ensures { FitsBody (Body.Refill line bytes.now) }
+{
+    fits_line(bytes);
 }
 
 fn fits_retire(retire: &Retire)
