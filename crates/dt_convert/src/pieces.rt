@@ -7,7 +7,8 @@ ghost use Rattle.dt_convert.specs.Convert.{version_of};
 
 use crate::versions::{FileVersion, number_of};
 use dt_record::Record;
-use dt_record_bytes::{encode, encode2};
+use dt_record_bytes::encode;
+use dt_short_bytes::encode2;
 use std::alloc::AllocError;
 
 /// The header of a file.

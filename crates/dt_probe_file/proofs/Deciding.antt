@@ -11,7 +11,7 @@ use Rattle.dt_record.specs.Spelling.{Version, Two, record_bytes, short_bytes, do
 use Rattle.dt_record.specs.Answers.{Reading, GoesOn}
 use Rattle.dt_record_bytes.specs.declared.decoded.Decoded.{Decoded}
 use Rattle.dt_record_bytes.specs.declared.decoded.Decoded.TheVariants as answers
-use Rattle.dt_record_bytes.specs.ShortForms.{StartsWith, IsGot, IsUnfinished}
+use Rattle.dt_short_bytes.specs.ShortForms.{StartsWith, IsGot, IsUnfinished}
 use Rattle.dt_record_bytes.proofs.Apart.{doubles_are_one}
 use Rattle.dt_record_bytes.proofs.Fields.{double_at_front, length-double}
 use Rattle.dt_probe_file.specs.HeaderFields.{get_or_behind}

@@ -9,7 +9,7 @@ use Rattle.dt_record.specs.Answers.{Reading, spelled_next, GoesOn, IsBroken}
 use Rattle.dt_record_bytes.specs.declared.decoded.Decoded.{Decoded}
 use Rattle.dt_record_bytes.specs.declared.decoded.Decoded.TheVariants.{Got, Short, Bad}
 use Rattle.dt_record_bytes.specs.WideAnswer.{IsCut}
-use Rattle.dt_record_bytes.specs.ShortForms.{IsUnfinished}
+use Rattle.dt_short_bytes.specs.ShortForms.{IsUnfinished}
 use Rattle.dt_probe_file.specs.declared.reading.Version.{Version}
 use Rattle.dt_probe_file.specs.declared.reading.Version.TheVariants.{One, Two}
 use Rattle.dt_probe_file.specs.declared.reading.Opened.{Opened}

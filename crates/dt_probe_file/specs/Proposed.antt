@@ -9,18 +9,18 @@ use Rattle.dt_record.specs.declared.records.Body.TheVariants.{Beat}
 use Rattle.dt_record.specs.Spelling.{Version, One, Two, short_bytes, varint, varint_within, present_bytes, presence, presence_bytes}
 use Rattle.dt_record_bytes.specs.declared.decoded.Decoded.{Decoded}
 use Rattle.dt_record_bytes.specs.declared.decoded.Decoded.TheVariants.{Got, Short, Bad}
-use Rattle.dt_record_bytes.specs.declared.short_kinds.Kind.{Kind}
-use Rattle.dt_record_bytes.specs.declared.short_kinds.Kind.TheVariants as kinds
-use Rattle.dt_record_bytes.specs.ShortForms.{kind_number, Form, form_bytes, FitsForm, MayFollow}
-use Rattle.dt_record_bytes.specs.ShortReading.{decoded_at}
+use Rattle.dt_short_bytes.specs.declared.short_kinds.Kind.{Kind}
+use Rattle.dt_short_bytes.specs.declared.short_kinds.Kind.TheVariants as kinds
+use Rattle.dt_short_bytes.specs.ShortForms.{kind_number, Form, form_bytes, FitsForm, MayFollow}
+use Rattle.dt_short_bytes.specs.ShortReading.{decoded_at}
 use Rattle.dt_record_bytes.proofs.Apart.{Whole, read_fields, fields_again}
 use Rattle.dt_record_bytes.proofs.Bounds.{wrote_byte_of, wrote_byte_is, same_bytes}
-use Rattle.dt_record_bytes.proofs.ShortGrammar.{IsBytes}
-use Rattle.dt_record_bytes.proofs.ShortVarint.{wider}
-use Rattle.dt_record_bytes.proofs.ShortTexts.{low_bytes}
-use Rattle.dt_record_bytes.proofs.ShortChain.{groups, presence_spelled}
-use Rattle.dt_record_bytes.proofs.ShortRecords.{form_of, spelling_is, form_fits}
-use Rattle.dt_record_bytes.proofs.ShortAnswers.{got_back}
+use Rattle.dt_short_bytes.proofs.ShortGrammar.{IsBytes}
+use Rattle.dt_short_bytes.proofs.ShortVarint.{wider}
+use Rattle.dt_short_bytes.proofs.ShortTexts.{low_bytes}
+use Rattle.dt_short_bytes.proofs.ShortChain.{groups, presence_spelled}
+use Rattle.dt_short_bytes.proofs.ShortRecords.{form_of, spelling_is, form_fits}
+use Rattle.dt_short_bytes.proofs.ShortAnswers.{got_back}
 use Rattle.dt_record.specs.Answers.{Reading, GoesOn}
 use Rattle.dt_probe_file.specs.Fronts.{IsNotBelow, IsRead}
 

@@ -5,7 +5,8 @@ ghost use Rattle.dt_probe_file.specs.Fronts.{IsSound, IsFront, IsDecoded, HasTag
 
 use crate::reading::{Opened, Version};
 use dt_record::Record;
-use dt_record_bytes::{Decoded, decode, decode2};
+use dt_record_bytes::{Decoded, decode};
+use dt_short_bytes::decode2;
 
 /// The tag of an end.
 const END: u8 = 255;

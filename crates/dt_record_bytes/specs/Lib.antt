@@ -1,4 +1,1 @@
-pub mod ShortForms
-pub mod ShortPieces
-pub mod ShortReading
 pub mod WideAnswer

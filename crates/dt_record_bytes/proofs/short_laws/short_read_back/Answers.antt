@@ -1,5 +1,0 @@
-use Rattle.std.proofs.Common.{refl}
-use Rattle.dt_record_bytes.proofs.short_laws.short_read_back.Goals as goal
-
-pub returns : goal.returns
-returns c = λ rest. (refl, rest, record { follows = record { fits = c.fits.ensures; lawful = c.requires.lawful; stamp = c.requires.stamp }; spelled = refl })

@@ -1,0 +1,3 @@
+pub mod ShortForms
+pub mod ShortPieces
+pub mod ShortReading
