@@ -4,7 +4,7 @@ use Rattle.std.specs.Prelude.{true, ◌==◌}
 use Rattle.std.specs.Int.{from_le_bytes, w64}
 use Rattle.std.proofs.lemmas.Bool.{eqb-true}
 use Rattle.std.proofs.lemmas.Bool.{cases_lt}
-use Rattle.std.proofs.lemmas.List.{append-nil, length-append, length-take, length-drop, take_at, drop_at, take-append-drop}
+use Rattle.std.proofs.lemmas.List.{append-nil, length-append, length-drop, take_at, drop_at, take-append-drop}
 use Rattle.std.proofs.Math.ListN.{get_or-append}
 use Rattle.dt_record.specs.declared.records.Record.{Record}
 use Rattle.dt_record.specs.Spelling.{Version, Two, record_bytes, short_bytes, double, end_bytes}
@@ -12,8 +12,7 @@ use Rattle.dt_record.specs.Answers.{Reading, GoesOn}
 use Rattle.dt_record_bytes.specs.declared.decoded.Decoded.{Decoded}
 use Rattle.dt_record_bytes.specs.declared.decoded.Decoded.TheVariants as answers
 use Rattle.dt_short_bytes.specs.ShortForms.{StartsWith, IsGot, IsUnfinished}
-use Rattle.dt_record_bytes.proofs.Apart.{doubles_are_one}
-use Rattle.dt_record_bytes.proofs.Fields.{double_at_front, length-double}
+use Rattle.dt_record_bytes.specs.SpellingLaws.{length-double, double_at_front, doubles_are_one}
 use Rattle.dt_probe_file.specs.HeaderFields.{get_or_behind}
 use Rattle.dt_probe_file.specs.declared.fronts.Front.{Front}
 use Rattle.dt_probe_file.specs.declared.fronts.Front.TheVariants as fronts
@@ -223,7 +222,7 @@ tag_of (b ∷ bytes) e = (bytes, ap (λ (n : ℕ). n ∷ bytes) e)
 
 pub count_spelled : (bytes field : List ℕ) (n : ℕ) → 9 ≤ length bytes → ((i : ℕ) → get_or bytes i 0 < 256) → field ≡ take 8 (drop 1 bytes) → n ≡ from_le_bytes w64 field → double n ≡ take 8 (drop 1 bytes)
 count_spelled bytes field n long each is number =
-    let size : length field ≡ 8 = omega (arith, ap length is, length-take 8 (drop 1 bytes), length-drop 1 bytes) in
+    let enough : 8 ≤ length (drop 1 bytes) = omega (arith, length-drop 1 bytes) in
     let spelled : drop 1 bytes ≡ double n ++ drop 8 (drop 1 bytes) =
-    double_at_front (drop 1 bytes) field field (drop 8 (drop 1 bytes)) n refl is refl size (λ i. subst (λ (b : ℕ). b < 256) (sym (get_or_behind bytes 1 i)) (each (1 + i))) number in
+    double_at_front (drop 1 bytes) n enough (λ i. subst (λ (b : ℕ). b < 256) (sym (get_or_behind bytes 1 i)) (each (1 + i))) (number ∙ ap (λ (z : List ℕ). from_le_bytes w64 z) is) in
     sym (ap (take 8) spelled ∙ take_at (double n) (drop 8 (drop 1 bytes)) 8 (length-double n))

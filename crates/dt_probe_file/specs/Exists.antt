@@ -16,9 +16,10 @@ use Rattle.dt_record.specs.declared.streams.Next.TheVariants.{Header, Event, End
 use Rattle.dt_record.specs.Lawful.{FitsRetire, FitsList, FitsBody, FitsRecord, is_lawful}
 use Rattle.dt_record.specs.Spelling.{Version, One, Two, record_bytes, wide_bytes, short_bytes, end_bytes}
 use Rattle.dt_record.specs.Answers.{Reading, opened, header_fault, after_record, writes_with, spelled_next, GoesOn, HasRoom, IsTooMany, AreAnswersAfter, AreAnswers}
-use Rattle.dt_record_bytes.proofs.Fields.{length-double}
+use Rattle.dt_record_bytes.specs.SpellingLaws.{length-double}
+use Rattle.dt_record_bytes.specs.WideProposing.{Proposal}
 use Rattle.dt_probe_file.specs.Fronts.{IsNotBelow, IsRead, LacksRecord}
-use Rattle.dt_probe_file.specs.Proposed.{Proposal, proposed, is_proposed, reads_are_one, read_of_next}
+use Rattle.dt_probe_file.specs.Proposed.{proposed, is_proposed, reads_are_one, read_of_next}
 use Rattle.dt_probe_file.specs.HeaderFields.{header_of}
 
 -- Facts that can be decided.

@@ -1,5 +1,3 @@
 pub mod Answering
-pub mod Apart
-pub mod Bounds
 pub mod Fields
 pub mod Lengths

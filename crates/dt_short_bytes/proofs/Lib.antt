@@ -1,12 +1,4 @@
-pub mod ShortAnswers
-pub mod ShortChain
 pub mod ShortFields
-pub mod ShortGrammar
 pub mod ShortLengths
-pub mod ShortLists
 pub mod ShortPresence
-pub mod ShortRecords
-pub mod ShortSpread
 pub mod ShortSteps
-pub mod ShortTexts
-pub mod ShortVarint

@@ -8,7 +8,7 @@ use Rattle.dt_short_bytes.specs.declared.short_kinds.Kind.{Kind}
 use Rattle.dt_short_bytes.specs.declared.short_kinds.Kind.TheVariants as kinds
 use Rattle.dt_short_bytes.specs.ShortForms.{kind_number}
 use Rattle.dt_short_bytes.specs.ShortReading.{◌>>=◌, bad, kind_with, kind_or_bad, kind_at, byte_from, presence_at}
-use Rattle.dt_short_bytes.proofs.ShortGrammar.{IsBytes, Reads, IsFree, IsInhabited, Behind, Reads-cons, Breaks-first}
+use Rattle.dt_short_bytes.specs.ShortGrammar.{IsBytes, Reads, IsFree, IsInhabited, Behind, Reads-cons, Breaks-first}
 
 -- ---- the tag
 

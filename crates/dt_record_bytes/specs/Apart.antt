@@ -211,12 +211,3 @@ fields_again r w rest fits is =
 pub fields_are_one : (r q : Record) (w v : ℕ) (x y : List ℕ) → FitsRecord r → FitsRecord q → IsWroteByte w r.body → IsWroteByte v q.body → wide_bytes_with w r ++ x ≡ wide_bytes_with v q ++ y → whole r w x ≡ whole q v y
 fields_are_one r q w v x y f g is was same =
     sym (fields_again r w x f is) ∙ ap read_fields same ∙ fields_again q v y g was
-
-abbrev number_then : ℕ → List ℕ → ℕ × List ℕ
-number_then n rest = (n, rest)
-
--- a number is spelled in one way
-pub doubles_are_one : (m n : ℕ) (x y : List ℕ) → m < 2 ^ 64 → n < 2 ^ 64 → double m ++ x ≡ double n ++ y → (m ≡ n) × (x ≡ y)
-doubles_are_one m n x y f g same =
-    let both : number_then m x ≡ number_then n y = sym (double_again m x number_then f) ∙ ap (λ (z : List ℕ). with_double z number_then) same ∙ double_again n y number_then g in
-    (ap (λ (p : ℕ × List ℕ). p.0) both, ap (λ (p : ℕ × List ℕ). p.1) both)
