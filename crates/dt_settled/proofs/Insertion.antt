@@ -8,8 +8,8 @@ use Rattle.dt_record.specs.KeyLaws.{key_below-itself, key_below-back, KeyBelow-c
 use Rattle.dt_record.specs.Writes.{insert_write, by_key}
 use Rattle.dt_versions.specs.History.{are_in_order}
 use Rattle.dt_writes.specs.Apart.{keys_differ}
-use Rattle.dt_writes.proofs.KeyOrder.{keys_rise, list_all-filter}
-use Rattle.dt_settled.proofs.Orders.{list_all-weaker}
+use Rattle.dt_writes.specs.KeyOrder.{keys_rise}
+use Rattle.dt_settled.proofs.Orders.{list_all-weaker, list_all-filter}
 
 -- Writes that are put among others in the order of keys.
 

@@ -1,7 +1,9 @@
 use Rattle.std.proofs.Common.{◌≡◌, ℕ, Bool, true, false, not, Option, Some, None, List, [], ◌∷◌, ◌++◌, filter, nat_lt, refl, sym, ap, ◌∙◌, inl, inr, arith, length-append}
 use Rattle.std.specs.List.{list_all}
 use Rattle.std.proofs.lemmas.Bool.{and_parts, and_from, cases_Bool, cond-true, cond-false, not-true, not_from_false, ltb-false, ltb-true, le-ltb, lt-ltb}
+use Rattle.std.proofs.lemmas.List.Elements.{All-filter}
 use Rattle.std.proofs.lemmas.List.Folds.{list_all-append}
+use Rattle.std.proofs.lemmas.List.Sums.{AllPass-from_list_all, list_all-from_AllPass}
 use Rattle.dt_record.specs.declared.keys.Key.{Key}
 use Rattle.dt_record.specs.declared.writes.Write.{Write}
 use Rattle.dt_record.specs.Keys.{key_below}
@@ -9,7 +11,6 @@ use Rattle.dt_record.specs.KeyLaws.{KeyBelow-stamps}
 use Rattle.dt_record.specs.Lawful.{is_ram_line}
 use Rattle.dt_versions.specs.History.{history, are_in_order, IsKept, CanAdd}
 use Rattle.dt_core.specs.Machine.{usable_below}
-use Rattle.dt_writes.proofs.KeyOrder.{list_all-filter}
 use Rattle.dt_settled.specs.Settling.{is_below, first_below}
 
 -- Writes in the order of their keys: their fronts, and those below a mark.
@@ -38,7 +39,10 @@ list_all-weaker p q (x ∷ xs) weaker all =
     let parts = and_parts (p x) (list_all p xs) all in
     and_from (q x) (list_all q xs) (weaker x parts.0) (list_all-weaker p q xs weaker parts.1)
 
--- what passes of a whole passes of its two parts
+-- what passes of a whole passes of what is left of it, and of its two parts
+pub list_all-filter : {X : Type 0} (p q : X → Bool) (xs : List X) → list_all p xs ≡ true → list_all p (filter q xs) ≡ true
+list_all-filter p q xs all = list_all-from_AllPass p (filter q xs) (All-filter q (λ x. p x ≡ true) xs (AllPass-from_list_all p xs all))
+
 pub list_all-parts : {X : Type 0} (p : X → Bool) (xs ys : List X) → list_all p (xs ++ ys) ≡ true → (list_all p xs ≡ true) × (list_all p ys ≡ true)
 list_all-parts p xs ys all = and_parts (list_all p xs) (list_all p ys) (sym (list_all-append p xs ys) ∙ all)
 

@@ -7,7 +7,7 @@ use Rattle.dt_record.specs.Keys.{key_below}
 use Rattle.dt_record.specs.KeyLaws.{key_below-back}
 use Rattle.dt_verdict.specs.declared.tallies.Noted.{Noted}
 use Rattle.dt_tallies.specs.Naming.{insert_note, notes_by_key}
-use Rattle.dt_writes.proofs.KeyOrder.{keys_rise, under, not_below-chain, same_from_ties}
+use Rattle.dt_writes.specs.KeyOrder.{not_below-chain, under, keys_rise}
 
 -- Notes sorted by insertion, which keeps the order of those with one key.
 
@@ -87,11 +87,6 @@ filter-insert x n (m ∷ ms) = elim (cases_Bool (key_below m.key n.key)) [
       ]
 ]
 
-filter-notes_by_key : (x : Noted) (ns : List Noted) → filter (tie x) (notes_by_key ns) ≡ filter (tie x) ns
+pub filter-notes_by_key : (x : Noted) (ns : List Noted) → filter (tie x) (notes_by_key ns) ≡ filter (tie x) ns
 filter-notes_by_key x [] = refl
 filter-notes_by_key x (n ∷ ns) = filter-insert x n (notes_by_key ns) ∙ ap (λ l. cond (tie x n) (n ∷ l) l) (filter-notes_by_key x ns)
-
--- what a stable sort gives is what the insertions give
-pub notes_by_key-from_sort : (ns ms : List Noted) → keys_rise note_key ms ≡ true → ((x : Noted) → filter (tie x) ms ≡ filter (tie x) ns) → ms ≡ notes_by_key ns
-notes_by_key-from_sort ns ms rise same =
-    same_from_ties note_key ms (notes_by_key ns) rise (rises-notes_by_key ns) (λ x. same x ∙ sym (filter-notes_by_key x ns))

@@ -5,6 +5,7 @@ ghost use Rattle.dt_tallies.specs.Naming.{is_named, named_notes, notes_by_key};
 use crate::counting::precedes;
 use dt_record::{Key, Letters, Sources};
 use dt_verdict::{Noted, NotedRecords};
+use dt_writes::stable_sorts_are_one;
 use std::alloc::AllocError;
 
 /// Whether a report names an allowed record with these letters and sources: one with a letter, or
@@ -28,5 +29,6 @@ pub fn named(mut notes: Vec<Noted>, limit: Option<Key>) -> Result<NotedRecords, 
 fn sort(notes: &mut Vec<Noted>) -> Result<(), AllocError>
     ensures { OnOk result (notes.new.items ≡ notes_by_key notes.old.items) }
 {
+    stable_sorts_are_one::<Noted>();
     notes.sort_by_key(|note| note.key)
 }

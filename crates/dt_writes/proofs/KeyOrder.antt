@@ -1,36 +1,27 @@
-use Rattle.std.proofs.Common.{◌≡◌, ℕ, zero, suc, ◌+◌, ◌<◌, ◌≤◌, Bool, true, false, not, ◌&&◌, List, [], ◌∷◌, length, get_or, filter, refl, sym, ap, ◌∙◌, subst, inl, inr, arith, suc-le-suc, zero-le}
+use Rattle.std.proofs.Common.{◌≡◌, ℕ, zero, suc, ◌+◌, ◌<◌, ◌≤◌, Bool, true, false, not, List, [], ◌∷◌, length, get_or, filter, refl, sym, ap, ◌∙◌, subst, inl, inr, arith, suc-le-suc, zero-le}
 use Rattle.std.specs.List.{list_all}
-use Rattle.std.specs.List.Sorted.{ties, IsSortedByKey, IsStableByKey}
+use Rattle.std.specs.List.Sorted.{ties, IsSortedByKey, IsStableBy, IsStableByKey}
 use Rattle.std.specs.Ordering.{is_lt}
 use Rattle.std.specs.Cmp.{IsStrictWeakOrder}
 use Rattle.std.proofs.lemmas.Bool.{and_parts, and_from, cases_Bool, cond-true, cond-false, not-true, not_from_false}
 use Rattle.std.proofs.lemmas.Bool.Decides.{nat_tests}
+use Rattle.std.proofs.lemmas.List.Elements.{All-filter}
 use Rattle.std.proofs.lemmas.List.Sorted.{sorted_far}
+use Rattle.std.proofs.lemmas.List.Sums.{AllPass-from_list_all, list_all-from_AllPass}
 use Rattle.std.proofs.Math.Path.{fun_ext}
 use Rattle.dt_record.specs.declared.keys.Key.{Key}
 use Rattle.dt_record.specs.Keys.{key_below}
 use Rattle.dt_record.specs.contracts.keys.KeyOrd.TheImpl.{ghosts}
 use Rattle.dt_record.specs.KeyLaws.{key_below-itself, key_below-back}
+use Rattle.dt_writes.specs.KeyOrder.{not_below-chain, under, keys_rise}
 
 -- Lists whose elements have keys that do not fall. Two of them that hold the same elements at each
 -- key, in the same order, are one list.
 
--- whether the key of an element stands before that of another
-abbrev pub under : {X : Type 0} → (X → Key) → X → X → Bool
-under key x y = key_below (key x) (key y)
-
--- whether no element's key stands before that of an element before it
-abbrev pub keys_rise : {X : Type 0} → (X → Key) → List X → Bool
-keys_rise key [] = true
-keys_rise key (x ∷ xs) = list_all (λ y. not (under key y x)) xs && keys_rise key xs
-
-pub not_below-chain : (a b c : Key) → key_below a b ≡ false → key_below b c ≡ false → key_below a c ≡ false
-not_below-chain a b c first second = grind (arith, nat_tests)
-
 not_below-back : (a b : Key) → key_below a b ≡ true → key_below b a ≡ false
 not_below-back a b below = key_below-back a b below
 
-pub under-order : {X : Type 0} (key : X → Key) → IsStrictWeakOrder (under key)
+under-order : {X : Type 0} (key : X → Key) → IsStrictWeakOrder (under key)
 under-order key = record {
   one_way = λ x y below. not_below-back (key x) (key y) below;
   chain = λ x y z first second. not_below-chain (key x) (key y) (key z) first second;
@@ -108,23 +99,22 @@ by_cmp-under : {X : Type 0} (key : X → Key) → by_cmp key ≡ under key
 by_cmp-under key = fun_ext (λ x. fun_ext (λ y. cmp-below (key x) (key y)))
 
 -- what a stable sort by key gives
-pub rises_from_sort : {X : Type 0} (key : X → Key) (xs : List X) → IsSortedByKey key ghosts.cmp xs → keys_rise key xs ≡ true
+rises_from_sort : {X : Type 0} (key : X → Key) (xs : List X) → IsSortedByKey key ghosts.cmp xs → keys_rise key xs ≡ true
 rises_from_sort key xs sorted =
     rises_from_far key xs (sorted_far (under key) (under-order key) xs (λ k d low within. sym (cmp-below (key (get_or xs (k + 1) d)) (key (get_or xs k d))) ∙ sorted k d low within))
 
-pub ties_from_sort : {X : Type 0} (key : X → Key) (xs ys : List X) → IsStableByKey key ghosts.cmp xs ys
-    → (x : X) → filter (ties (under key) x) ys ≡ filter (ties (under key) x) xs
-ties_from_sort {X} key xs ys stable = subst (λ (lt : X → X → Bool). (x : X) → filter (ties lt x) ys ≡ filter (ties lt x) xs) (by_cmp-under key) stable
+stable_from_sort : {X : Type 0} (key : X → Key) (xs ys : List X) → IsStableByKey key ghosts.cmp xs ys → IsStableBy (under key) xs ys
+stable_from_sort {X} key xs ys stable = subst (λ (lt : X → X → Bool). IsStableBy lt xs ys) (by_cmp-under key) stable
+
+pub stable_sort_is_one : {X : Type 0} (key : X → Key) (given sorted ordered : List X)
+    → IsSortedByKey key ghosts.cmp sorted → IsStableByKey key ghosts.cmp given sorted
+    → keys_rise key ordered ≡ true → IsStableBy (under key) given ordered → sorted ≡ ordered
+stable_sort_is_one key given sorted ordered up stable rise same =
+    same_from_ties key sorted ordered (rises_from_sort key sorted up) rise (λ x. stable_from_sort key given sorted stable x ∙ sym (same x))
 
 -- a filter keeps the order, and two filters may change places
-pub list_all-filter : {X : Type 0} (p q : X → Bool) (xs : List X) → list_all p xs ≡ true → list_all p (filter q xs) ≡ true
-list_all-filter p q [] all = refl
-list_all-filter p q (x ∷ xs) all =
-    let parts = and_parts (p x) (list_all p xs) all in
-    elim (cases_Bool (q x)) [
-      | inl passes ↦ ap (list_all p) (filter-kept q x xs passes) ∙ and_from (p x) (list_all p (filter q xs)) parts.0 (list_all-filter p q xs parts.1)
-      | inr fails ↦ ap (list_all p) (filter-dropped q x xs fails) ∙ list_all-filter p q xs parts.1
-    ]
+list_all-filter : {X : Type 0} (p q : X → Bool) (xs : List X) → list_all p xs ≡ true → list_all p (filter q xs) ≡ true
+list_all-filter p q xs all = list_all-from_AllPass p (filter q xs) (All-filter q (λ x. p x ≡ true) xs (AllPass-from_list_all p xs all))
 
 pub keys_rise-filter : {X : Type 0} (key : X → Key) (q : X → Bool) (xs : List X) → keys_rise key xs ≡ true → keys_rise key (filter q xs) ≡ true
 keys_rise-filter key q [] rise = refl

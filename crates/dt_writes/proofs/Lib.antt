@@ -1,5 +1,5 @@
 mod Filling
-pub mod KeyOrder
+mod KeyOrder
 mod Listing
 mod WriteOrder
 mod WritesOfRecords

@@ -9,7 +9,7 @@ use Rattle.dt_record.specs.KeyLaws.{KeyBelow-chain, key_below-back}
 use Rattle.dt_record.specs.Writes.{insert_write, by_key}
 use Rattle.dt_versions.specs.History.{are_in_order}
 use Rattle.dt_writes.specs.Apart.{keys_differ, are_apart}
-use Rattle.dt_writes.proofs.KeyOrder.{keys_rise, under, not_below-chain, same_from_ties}
+use Rattle.dt_writes.specs.KeyOrder.{not_below-chain, under, keys_rise}
 
 -- Writes sorted by insertion.
 
@@ -125,9 +125,3 @@ filter-by_key x (w ∷ ws) apart =
     let parts = and_parts (list_all (λ v. keys_differ w.key v.key) ws) (are_apart ws) apart in
     filter-insert x w (by_key ws) (list_all-by_key (λ v. keys_differ w.key v.key) ws parts.0)
     ∙ ap (λ l. cond (tie x w) (w ∷ l) l) (filter-by_key x ws parts.1)
-
--- what a stable sort gives is what the insertions give
-pub by_key-from_sort : (ws vs : List Write) → are_apart ws ≡ true → keys_rise write_key vs ≡ true
-    → ((x : Write) → filter (tie x) vs ≡ filter (tie x) ws) → vs ≡ by_key ws
-by_key-from_sort ws vs apart rise same =
-    same_from_ties write_key vs (by_key ws) rise (rises_from_order (by_key ws) (in_order-by_key ws apart)) (λ x. same x ∙ sym (filter-by_key x ws apart))

@@ -17,8 +17,9 @@ use Rattle.dt_record.specs.Writes.{body_write, write_of_record, writes_memory, c
 use Rattle.dt_versions.specs.History.{are_in_order, history, IsKept}
 use Rattle.dt_writes.specs.Apart.{keys_differ, are_apart}
 use Rattle.dt_writes.specs.FileRecords.{AreFileRecords}
+use Rattle.dt_writes.specs.KeyOrder.{under, keys_rise}
 use Rattle.dt_writes.specs.OwnWrites.{own_writes_from}
-use Rattle.dt_writes.proofs.KeyOrder.{keys_rise, under, same_from_ties, keys_rise-filter, filter-filter}
+use Rattle.dt_writes.proofs.KeyOrder.{same_from_ties, keys_rise-filter, filter-filter}
 use Rattle.dt_writes.proofs.WriteOrder.{write_key, tie, list_all-weaker, list_all-by_key, in_order-by_key, rises_from_order, filter-by_key}
 
 -- The writes that records make.

@@ -8,4 +8,4 @@ mod laws;
 mod tests;
 
 pub use histories::moments_of;
-pub use laws::{own_writes_are_of_records, writes_stand_in_order};
+pub use laws::{own_writes_are_of_records, stable_sorts_are_one, writes_stand_in_order};

@@ -1,5 +1,5 @@
-use crate::{moments_of, own_writes_are_of_records, writes_stand_in_order};
-use dt_record::{Body, Image, Key, Record, Retire};
+use crate::{moments_of, own_writes_are_of_records, stable_sorts_are_one, writes_stand_in_order};
+use dt_record::{Body, Image, Key, Record, Retire, Write};
 use dt_versions::Moments;
 use std::test::Fail;
 
@@ -50,6 +50,7 @@ fn writes_happen_in_the_order_of_their_keys(rt: HostRuntime) -> Result<(), Fail>
     let moments = moments_of(rt.alloc(), image, &RECORDS)?;
     own_writes_are_of_records();
     writes_stand_in_order();
+    stable_sorts_are_one::<Write>();
     let key = |stamp, hart, seq| Some(Key { stamp, hart, seq });
     for (k, byte, source) in [
         (0, 0, None),
