@@ -3,15 +3,17 @@ use Rattle.std.proofs.Common.{◌≡◌, ◌≢◌, ◌∙◌, ◌<◌, ◌≤�
 use Rattle.std.proofs.lemmas.Bool.{cases_eq, ne_eqb}
 use Rattle.std.proofs.lemmas.Bool.Decides.{nat_tests}
 use Rattle.std.proofs.lemmas.List.{append-nil, length-set, get_or-set_same, get_or-set_other}
+use Rattle.std.proofs.lemmas.Option.{IfSome_then}
 use Rattle.dt_record.specs.declared.records.Record.{Record}
 use Rattle.dt_record.specs.declared.streams.Next.{Next}
 use Rattle.dt_record.specs.declared.streams.Next.TheVariants.{Header, Event, End, Malformed, Limit, ReadFault, OutOfMemory}
 use Rattle.dt_record.specs.Spelling.{Version, record_bytes, end_bytes}
 use Rattle.dt_record.specs.Lawful.{IsLawful}
-use Rattle.dt_record.specs.ProbeFile.{header_bytes, records_bytes, no_stamps, stamped, IsNext}
+use Rattle.dt_record.specs.ProbeFile.{header_bytes, records_bytes, no_stamps, stamped}
 use Rattle.dt_record.specs.Streams.{Progress, IsFresh, TakesHeader, TakesRecord, TakesAnswer}
 use Rattle.dt_dump.specs.Dump.{records_in}
-use Rattle.dt_dump.proofs.Underway.{HasCome, HasTold, told_map, some_and, come_first, no_harts, tells_first, come_header, tells_header, come_record, tells_record, came_last}
+use Rattle.dt_dump.specs.Reading.{HasCome, HasTold}
+use Rattle.dt_dump.specs.ReadingLaws.{come_first, come_header, come_record, came_last, tells_first, tells_header, tells_record, behind_header}
 use Rattle.dt_convert.specs.Convert.{file_bytes, file_with}
 use Rattle.dt_convert.specs.Reading.{IsFileOf, StopsAt}
 
@@ -83,7 +85,7 @@ starts told version stamps p fresh eight zeros = record {
   header = no_header told p fresh.no_header;
   spelled = rw fresh.no_header refl;
   kept = record { eight = eight; each = zeros };
-  agreed = no_harts p.harts _ fresh.no_header;
+  agreed = λ some hart. let bad = subst (λ (o : Option ℕ). IsSome o) fresh.no_header some in cc;
   tells = tells_first p fresh;
 }
 
@@ -111,8 +113,8 @@ after_header told left after version bytes stamps old new harts wide d takes t =
     let none : d.given ≡ [] = d.tells.none_yet t.first in
     record {
       given = d.given;
-      came = told_map told (λ answers. HasCome answers left d.given) (λ answers. HasCome answers after d.given) d.came (λ answers h. come_header answers left after d.given harts wide takes h);
-      header = told_map told (λ answers. HasHeader old.harts old.wide answers left) (λ answers. HasHeader new.harts new.wide answers after) d.header (λ answers h. opens answers left after old new harts wide takes t h);
+      came = IfSome_then told d.came (λ answers h. come_header answers left after d.given harts wide takes h);
+      header = IfSome_then told d.header (λ answers h. opens answers left after old new harts wide takes t h);
       spelled = spelled_header version bytes d.given old new harts wide d.spelled t none;
       kept = d.kept;
       agreed = λ some hart. t.no_stamps hart ∙ sym (ap (λ (rs : List Record). stamps_after no_stamps rs hart) none);
@@ -125,7 +127,7 @@ spelled_record : (version : Version) (bytes stamps : List ℕ) (given : List Rec
     → bytes ≡ front version old.harts old.wide given → TakesRecord old r new → slice_index stamps r.hart ≡ stamps_after no_stamps given r.hart
     → bytes ++ record_bytes version (slice_index stamps r.hart) r ≡ front version new.harts new.wide (given ++ r ∷ [])
 spelled_record version bytes stamps given old new r is t stamp =
-    let some = some_and old.harts _ t.next in
+    let some = behind_header old r t.next in
     let header = header_bytes version some.0 old.wide in
     let so_far : bytes ≡ header ++ records_bytes version no_stamps given = is ∙ ap (λ (o : Option ℕ). front version o old.wide given) some.1 in
     let harts : new.harts ≡ Some some.0 = t.harts_stay ∙ some.1 in
@@ -136,7 +138,7 @@ spelled_record version bytes stamps given old new r is t stamp =
 stays_open : (answers : List Next) (left after : Option (List Next)) (old new : Progress) (r : Record) → TakesRecord old r new
     → HasHeader old.harts old.wide answers left → HasHeader new.harts new.wide answers after
 stays_open answers left after old new r t h =
-    let some = some_and old.harts _ t.next in
+    let some = behind_header old r t.next in
     let harts : new.harts ≡ Some some.0 = t.harts_stay ∙ some.1 in
     let first = subst (λ (o : Option ℕ). HasHeader o old.wide answers left) some.1 h in
     rw (harts, t.wide_stays) first
@@ -162,7 +164,7 @@ agreed_record : (given : List Record) (old new : Progress) (r : Record) → Take
     → (IsSome old.harts → (hart : ℕ) → old.stamps hart ≡ stamps_after no_stamps given hart)
     → (hart : ℕ) → new.stamps hart ≡ stamps_after no_stamps (given ++ r ∷ []) hart
 agreed_record given old new r t agreed hart =
-    let some = some_and old.harts _ t.next in
+    let some = behind_header old r t.next in
     let before : old.stamps hart ≡ stamps_after no_stamps given hart = agreed (rw some.1 refl) hart in
     t.stamps_are hart ∙ ap (λ (n : ℕ). cond (hart == r.hart) r.stamp n) before ∙ sym (stamps-more no_stamps given r hart)
 
@@ -171,8 +173,8 @@ pub after_record : (told left after : Option (List Next)) (version : Version) (b
     → IsDraft told after version (bytes ++ record_bytes version (slice_index stamps r.hart) r) (slice_set stamps r.hart r.stamp) new
 after_record told left after version bytes stamps old new r d takes t fits = record {
   given = d.given ++ r ∷ [];
-  came = told_map told (λ answers. HasCome answers left d.given) (λ answers. HasCome answers after (d.given ++ r ∷ [])) d.came (λ answers h. come_record answers left after d.given r takes h);
-  header = told_map told (λ answers. HasHeader old.harts old.wide answers left) (λ answers. HasHeader new.harts new.wide answers after) d.header (λ answers h. stays_open answers left after old new r t h);
+  came = IfSome_then told d.came (λ answers h. come_record answers left after d.given r takes h);
+  header = IfSome_then told d.header (λ answers h. stays_open answers left after old new r t h);
   spelled = spelled_record version bytes stamps d.given old new r d.spelled t (d.kept.each r.hart fits);
   kept = kept_record stamps d.given r fits d.kept;
   agreed = λ _. agreed_record d.given old new r t d.agreed;
@@ -180,16 +182,14 @@ after_record told left after version bytes stamps old new r d takes t fits = rec
 }
 
 pub lawful_next : (old new : Progress) (r : Record) → TakesRecord old r new → IsLawful r
-lawful_next old new r t =
-    let some = some_and old.harts (λ harts. IsNext harts old.stamps r) t.next in
-    some.2.lawful
+lawful_next old new r t = (behind_header old r t.next).2.lawful
 
 -- the record may be spelled behind the last stamp of its hart
 pub may_follow : (stamps : List ℕ) (given : List Record) (old new : Progress) (r : Record) → AreStamps stamps given
     → (IsSome old.harts → (hart : ℕ) → old.stamps hart ≡ stamps_after no_stamps given hart) → TakesRecord old r new → r.hart < 8
     → slice_index stamps r.hart ≤ r.stamp
 may_follow stamps given old new r kept agreed t fits =
-    let some = some_and old.harts _ t.next in
+    let some = behind_header old r t.next in
     let same : slice_index stamps r.hart ≡ old.stamps r.hart = kept.each r.hart fits ∙ sym (agreed (rw some.1 refl) r.hart) in
     rw same some.2.stamp
 
@@ -242,7 +242,7 @@ stops_at answers left after given OutOfMemory h takes is = tt
 
 pub stops : (told left after : Option (List Next)) (given : List Record) (last : Next) → TakesAnswer left last after → IsRefusal last
     → IfSome told (λ answers. HasCome answers left given) → IfSome told (λ answers. StopsAt answers last)
-stops told left after given last takes is came = told_map told (λ answers. HasCome answers left given) (λ answers. StopsAt answers last) came (λ answers h. stops_at answers left after given last h takes is)
+stops told left after given last takes is came = IfSome_then told came (λ answers h. stops_at answers left after given last h takes is)
 
 -- a stream that gives up stops anywhere
 pub stops_for_memory : (told : Option (List Next)) → IfSome told (λ answers. StopsAt answers OutOfMemory)

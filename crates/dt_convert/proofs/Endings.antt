@@ -6,7 +6,6 @@ use Rattle.dt_record.specs.declared.streams.Next.{Next}
 use Rattle.dt_record.specs.declared.streams.Next.TheVariants.{Header, Event, End, Malformed, Limit, ReadFault, OutOfMemory}
 use Rattle.dt_record.specs.Spelling.{Version}
 use Rattle.dt_dump.specs.Dump.{end_of, last_line, last_status, stream_status, memory_line, AppendsPart}
-use Rattle.dt_dump.proofs.Underway.{told_map}
 use Rattle.dt_convert.specs.Convert.{file_with, ending_bytes, converted, MayConvert}
 use Rattle.dt_convert.specs.Reading.{IsFileOf, StopsAt}
 
@@ -39,22 +38,25 @@ whole_line version answers OutOfMemory read memory h = absurd (memory refl)
 pub file_comes : (told : Option (List Next)) (version : Version) (bytes : List ℕ) (before after : Option (List ℕ)) (status : ℕ)
     → IfSome told (λ answers. IsFileOf version answers bytes) → status ≡ 0 → Appends before bytes after
     → IfSome told (λ answers. (status ≡ stream_status answers) × Appends before (converted version answers) after)
-file_comes told version bytes before after status came zero written = told_map told (λ answers. IsFileOf version answers bytes) (λ answers. (status ≡ stream_status answers) × Appends before (converted version answers) after) came (λ answers h.
-    let whole = whole_file version answers bytes h in
-    (zero ∙ sym whole.1, subst (λ (z : List ℕ). Appends before z after) (sym whole.0) written))
+file_comes None version bytes before after status came zero written = tt
+file_comes (Some answers) version bytes before after status came zero written =
+    let whole = whole_file version answers bytes came in
+    (zero ∙ sym whole.1, subst (λ (z : List ℕ). Appends before z after) (sym whole.0) written)
 
 pub line_comes : (told : Option (List Next)) (version : Version) (last : Next) (before after : Option (List ℕ)) (status : ℕ) → last ≢ ReadFault → last ≢ OutOfMemory
     → IfSome told (λ answers. StopsAt answers last) → status ≡ last_status last → Appends before (last_line last) after
     → IfSome told (λ answers. (status ≡ stream_status answers) × Appends before (converted version answers) after)
-line_comes told version last before after status read memory came is written = told_map told (λ answers. StopsAt answers last) (λ answers. (status ≡ stream_status answers) × Appends before (converted version answers) after) came (λ answers h.
-    let whole = whole_line version answers last read memory h in
-    (is ∙ sym whole.1, subst (λ (z : List ℕ). Appends before z after) (sym whole.0) written))
+line_comes None version last before after status read memory came is written = tt
+line_comes (Some answers) version last before after status read memory came is written =
+    let whole = whole_line version answers last read memory came in
+    (is ∙ sym whole.1, subst (λ (z : List ℕ). Appends before z after) (sym whole.0) written)
 
 -- ---- what may come of a write that failed
 
 pub file_may_come : (told : Option (List Next)) (version : Version) (bytes : List ℕ) (rose : Type 0)
     → IfSome told (λ answers. IsFileOf version answers bytes) → MayConvert version told rose bytes
-file_may_come told version bytes rose came = inl (told_map told (λ answers. IsFileOf version answers bytes) (λ answers. bytes ≡ converted version answers) came (λ answers h. sym (whole_file version answers bytes h).0))
+file_may_come None version bytes rose came = inl tt
+file_may_come (Some answers) version bytes rose came = inl (sym (whole_file version answers bytes came).0)
 
 line_may_come : (told : Option (List Next)) (version : Version) (rose : Type 0) (last : Next) → (last ≡ ReadFault → rose)
     → IfSome told (λ answers. StopsAt answers last) → MayConvert version told rose (last_line last)

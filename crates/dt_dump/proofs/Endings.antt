@@ -3,14 +3,12 @@ use Rattle.std.proofs.Common.{◌≡◌, ◌≢◌, ◌∙◌, ◌⊎◌, ℕ, L
 use Rattle.std.proofs.lemmas.List.{append-nil}
 use Rattle.std.specs.Option.{option_map_or}
 use Rattle.dt_source.specs.Known.{Appends}
-use Rattle.dt_source.proofs.Steps.{Appends-append}
 use Rattle.dt_record.specs.declared.records.Record.{Record}
 use Rattle.dt_record.specs.declared.streams.Next.{Next}
 use Rattle.dt_record.specs.declared.streams.Next.TheVariants.{Header, Event, End, Malformed, Limit, ReadFault, OutOfMemory}
 use Rattle.dt_dump.specs.Dump.{record_lines, records_in, end_of, last_line, last_status, dump_text, stream_status, memory_line, BeginsWith, IsCutShort, MayDump, AppendsPart}
 use Rattle.dt_dump.specs.Reading.{CameTo}
-use Rattle.dt_dump.proofs.Texts.{part_last}
-use Rattle.dt_dump.proofs.Underway.{told_map}
+use Rattle.dt_dump.proofs.Texts.{Appends-append, part_last}
 
 -- records that came to an answer are the first
 begins : (answers : List Next) (given : List Record) (last : Next) → CameTo answers given last → BeginsWith answers given
@@ -24,7 +22,8 @@ begins answers given OutOfMemory h = h
 
 -- the lines of those that came, and a line
 pub cut_short : (told : Option (List Next)) (given : List Record) (last : Next) (line : List ℕ) → IfSome told (λ answers. CameTo answers given last) → IsCutShort told line (record_lines given ++ line)
-cut_short told given last line came = (given, told_map told (λ answers. CameTo answers given last) (λ answers. BeginsWith answers given) came (λ answers h. begins answers given last h), refl)
+cut_short None given last line came = (given, tt, refl)
+cut_short (Some answers) given last line came = (given, begins answers given last came, refl)
 
 -- the whole text of answers that end with this one
 whole_text : (answers : List Next) (given : List Record) (last : Next) → records_in answers ≡ given → end_of answers ≡ Some last
@@ -48,11 +47,12 @@ is_whole answers given OutOfMemory read memory h = absurd (memory refl)
 pub comes_whole : (told : Option (List Next)) (before middle after : Option (List ℕ)) (given : List Record) (last : Next) (status : ℕ) → last ≢ ReadFault → last ≢ OutOfMemory
     → IfSome told (λ answers. CameTo answers given last) → Appends before (record_lines given) middle → status ≡ last_status last → Appends middle (last_line last) after
     → IfSome told (λ answers. (status ≡ stream_status answers) × Appends before (dump_text answers) after)
-comes_whole told before middle after given last status read memory came first is line = told_map told (λ answers. CameTo answers given last) (λ answers. (status ≡ stream_status answers) × Appends before (dump_text answers) after) came (λ answers h.
-    let whole = is_whole answers given last read memory h in (
+comes_whole None before middle after given last status read memory came first is line = tt
+comes_whole (Some answers) before middle after given last status read memory came first is line =
+    let whole = is_whole answers given last read memory came in (
       is ∙ sym whole.1,
       subst (λ (z : List ℕ). Appends before z after) (sym whole.0) (Appends-append before middle after _ _ first line),
-    ))
+    )
 
 -- what may come of an answer that ends a stream
 may_come : (told : Option (List Next)) (rose : Type 0) (given : List Record) (last : Next) → (last ≡ ReadFault → rose) → IfSome told (λ answers. CameTo answers given last)

@@ -1,14 +1,21 @@
 -- The text of a dump, piece by piece.
 use Rattle.std.proofs.Common.{◌≡◌, ◌∙◌, ℕ, List, [], ◌∷◌, ◌++◌, Option, Some, None, IfSome, length, take, drop, refl, sym, ap, subst, append_assoc}
 use Rattle.std.proofs.lemmas.List.{append-nil, take-append-drop}
-use Rattle.std.specs.Option.{option_map_or}
+use Rattle.std.specs.Option.{option_map, option_map_or}
 use Rattle.dt_source.specs.Known.{Appends}
-use Rattle.dt_source.proofs.Steps.{Appends-append}
 use Rattle.dt_record.specs.declared.records.Record.{Record}
 use Rattle.dt_record.specs.declared.streams.Next.{Next}
 use Rattle.dt_record.specs.Keys.{records_of}
 use Rattle.dt_text.specs.Line.{line_text}
 use Rattle.dt_dump.specs.Dump.{lines_after, record_lines, records_in, end_of, last_line, dump_text, AppendsPart}
+
+-- what is appended in two steps is appended in one
+pub Appends-append : (before middle after : Option (List ℕ)) (xs ys : List ℕ) → Appends before xs middle → Appends middle ys after → Appends before (xs ++ ys) after
+Appends-append None middle after xs ys first second = second ∙ ap (option_map (λ bytes. bytes ++ ys)) first
+Appends-append (Some bytes) middle after xs ys first second =
+    second ∙ ap (option_map (λ bytes. bytes ++ ys)) first ∙ ap Some (append_assoc bytes xs ys)
+
+-- ---- lines
 
 -- the lines of records and of one more
 lines_more : (before records : List Record) (r : Record) → lines_after before (records ++ r ∷ []) ≡ lines_after before records ++ line_text (length (records_of r.hart (before ++ records))) r

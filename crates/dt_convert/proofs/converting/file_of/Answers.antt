@@ -1,11 +1,12 @@
 use Rattle.std.proofs.Common.{◌<◌, refl, ◌∙◌, arith}
-use Rattle.dt_dump.proofs.Underway.{hart_fits, zeros}
+use Rattle.std.proofs.lemmas.List.{get_or-replicate}
+use Rattle.dt_dump.specs.ReadingLaws.{hart_fits}
 use Rattle.dt_convert.proofs.Drafts.{after_record, lawful_next, starts}
 use Rattle.dt_convert.proofs.converting.file_of.Goals as goal
 
 pub loop-harts-init : goal.loop-harts-init
 loop-harts-init g c = record {
-  draft = rw c.new-bytes.ensures.items (starts _ _ _ _ c.requires refl (λ hart _. zeros hart));
+  draft = rw c.new-bytes.ensures.items (starts _ _ _ _ c.requires refl (λ hart below. get_or-replicate 8 hart 0 0 below));
   counted = omega arith;
   same_lent = refl;
 }

@@ -1,10 +1,16 @@
-use Rattle.std.proofs.Common.{◌≡◌, ◌∙◌, ◌++◌, ap, sym, subst}
-use Rattle.dt_source.proofs.Steps.{Appends-append, Rose-later}
+use Rattle.std.proofs.Common.{◌≡◌, ◌∙◌, ◌≤◌, ◌++◌, ℕ, ap, inl, inr, sym, subst, arith}
+use Rattle.dt_source.specs.Faults.{Rose}
 use Rattle.dt_source.specs.Known.{Appends}
 use Rattle.dt_record.specs.declared.streams.Next.{Next}
 use Rattle.dt_dump.specs.Dump.{last_line, last_status, memory_line, read_fault_line, record_lines}
+use Rattle.dt_dump.proofs.Texts.{Appends-append}
 use Rattle.dt_dump.proofs.Endings.{comes_whole, cut_short, front_of_last, some_last, status_of_read_fault}
 use Rattle.dt_dump.proofs.dumping.dump_probes.Goals as goal
+
+-- a count that rose in the later of two steps rose in both
+Rose-later : (before middle after : ℕ) → before ≤ middle → Rose middle after → Rose before after
+Rose-later before middle after h (inl risen) = inl (omega arith)
+Rose-later before middle after h (inr at_end) = inr at_end
 
 pub returns-in-Ok-clause-whole : goal.returns-in-Ok-clause-whole
 returns-in-Ok-clause-whole g c = λ read write memory.

@@ -1,13 +1,15 @@
 use Rattle.std.proofs.Common.{◌<◌, ℕ, List, refl, sym, ◌∙◌, subst, arith}
+use Rattle.std.proofs.lemmas.List.{get_or-replicate}
 use Rattle.dt_text.specs.Line.{line_text}
 use Rattle.dt_dump.specs.Dump.{AppendsPart}
+use Rattle.dt_dump.specs.ReadingLaws.{hart_fits}
 use Rattle.dt_dump.proofs.Texts.{front_of_text}
-use Rattle.dt_dump.proofs.Underway.{IsUnderway, after_record, comes_next, has_room, hart_fits, starts, zeros}
+use Rattle.dt_dump.proofs.Underway.{IsUnderway, after_record, comes_next, has_room, starts}
 use Rattle.dt_dump.proofs.dumping.put_records.Goals as goal
 
 pub loop-event-init : goal.loop-event-init
 loop-event-init g c = record {
-  underway = starts _ _ _ _ c.requires refl (λ hart _. zeros hart);
+  underway = starts _ _ _ _ c.requires refl (λ hart below. get_or-replicate 8 hart 0 0 below);
   probes_counted = omega arith;
   out_counted = omega arith;
   same_lent = refl;

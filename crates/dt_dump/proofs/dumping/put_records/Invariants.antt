@@ -1,5 +1,6 @@
 use Rattle.std.proofs.Common.{◌≡◌, ◌≤◌}
-use Rattle.dt_dump.proofs.Underway.{IsUnderway, remaining}
+use Rattle.dt_dump.specs.Reading.{remaining}
+use Rattle.dt_dump.proofs.Underway.{IsUnderway}
 use Rattle.dt_dump.proofs.dumping.put_records.Given as goal
 
 -- the lines of the records that came were written
