@@ -5,8 +5,6 @@
 mod converting;
 mod laws;
 mod pieces;
-#[cfg(test)]
-mod tests;
 mod versions;
 
 pub use converting::convert_probes;

@@ -3,8 +3,6 @@
 
 mod dumping;
 mod lines;
-#[cfg(test)]
-mod tests;
 
 pub use dumping::dump_probes;
 pub use lines::{WRITE_FAULT, put_last};

@@ -1,4 +1,4 @@
-ghost use Rattle.std.specs.Prelude.{◌≡◌, ◌≤◌, None, Some};
+ghost use Rattle.std.specs.Prelude.{◌≡◌, ◌≢◌, ◌≤◌, None, Some};
 ghost use Rattle.dt_source.specs.Faults.{Rose};
 ghost use Rattle.dt_probe_file.specs.Asking.{HadToRead};
 ghost use Rattle.dt_probe_file.specs.Fronts.{IsSound, reading_of};
@@ -46,6 +46,7 @@ pub(crate) fn hear<S: Source>(source: &mut S, held: &mut Held) -> Heard
     ensures whole { whole held.new (S.left source.new) ≡ whole held.old (S.left source.old) }
     ensures heard { IsHeard held.new (S.left source.new) result }
     ensures fault { result ≡ Heard.Failed → Rose (S.faults source.old) (S.faults source.new) }
+    ensures quiet { result ≢ Heard.Failed → S.faults source.new ≡ S.faults source.old }
     ensures needed { result ≡ Heard.Failed → HadToRead None held.old (S.left source.old) (S.left source.new) }
     ensures never_falls { S.faults source.old ≤ S.faults source.new }
     ensures same_lent { S.lent source.new ≡ S.lent source.old }
@@ -81,6 +82,7 @@ pub(crate) fn find<S: Source>(source: &mut S, held: &mut Held, opened: &Opened) 
     ensures reads { ReadsOn held.old (S.left source.old) held.new (S.left source.new) }
     ensures found { IsFound (reading_of opened.now) held.new (S.left source.new) result }
     ensures fault { result ≡ Found.Failed → Rose (S.faults source.old) (S.faults source.new) }
+    ensures quiet { result ≢ Found.Failed → S.faults source.new ≡ S.faults source.old }
     ensures needed { result ≡ Found.Failed → HadToRead (Some opened.now) held.old (S.left source.old) (S.left source.new) }
     ensures never_falls { S.faults source.old ≤ S.faults source.new }
     ensures same_lent { S.lent source.new ≡ S.lent source.old }

@@ -1,4 +1,4 @@
-ghost use Rattle.std.specs.Prelude.{◌≡◌, ◌<◌, ◌≤◌, ◌+◌, ◌-◌, ◌++◌, [], true, false, length, drop, take, option_map, IfOk, IfSome, OnErr};
+ghost use Rattle.std.specs.Prelude.{◌≡◌, ◌<◌, ◌≤◌, ◌+◌, ◌-◌, ◌++◌, [], true, false, length, drop, take, option_map, IfOk, IfSome, OnErr, OnOk};
 ghost use Rattle.dt_source.specs.Faults.{Rose};
 ghost use Rattle.dt_probe_file.specs.Parts.{ReadsOn, part, whole};
 
@@ -78,6 +78,7 @@ fn read_on<S: Source>(
     ensures end { result ≡ Ok false → (part start.new end.new bytes.new ≡ part start.old end.old bytes.old) × IfSome (S.left source.new) (λ rest. rest ≡ []) }
     ensures failed_only { OnErr result (Rose (S.faults source.old) (S.faults source.new)) }
     ensures failed_stays { OnErr result ((part start.new end.new bytes.new ≡ part start.old end.old bytes.old) × (S.left source.new ≡ S.left source.old)) }
+    ensures quiet { OnOk result (S.faults source.new ≡ S.faults source.old) }
     ensures never_falls { S.faults source.old ≤ S.faults source.new }
     ensures same_lent { S.lent source.new ≡ S.lent source.old }
 {
@@ -124,6 +125,7 @@ impl Held {
         ensures end { result ≡ Ok false → (self.new ≡ self.old) × IfSome (S.left source.new) (λ rest. rest ≡ []) }
         ensures failed_only { OnErr result (Rose (S.faults source.old) (S.faults source.new)) }
         ensures failed_stays { OnErr result ((self.new ≡ self.old) × (S.left source.new ≡ S.left source.old)) }
+        ensures quiet { OnOk result (S.faults source.new ≡ S.faults source.old) }
         ensures never_falls { S.faults source.old ≤ S.faults source.new }
         ensures same_lent { S.lent source.new ≡ S.lent source.old }
     {

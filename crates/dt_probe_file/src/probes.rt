@@ -114,6 +114,8 @@ impl<S: Source> Probes for FileProbes<S> {
         ensures rising { ⟦<FileProbes<S> as Probes>⟧.faults self.old ≤ ⟦<FileProbes<S> as Probes>⟧.faults self.new }
         ensures fault { result ≡ Next.ReadFault
             → Rose (⟦<FileProbes<S> as Probes>⟧.faults self.old) (⟦<FileProbes<S> as Probes>⟧.faults self.new) }
+        ensures quiet { result ≢ Next.ReadFault
+            → ⟦<FileProbes<S> as Probes>⟧.faults self.new ≡ ⟦<FileProbes<S> as Probes>⟧.faults self.old }
         ensures needed { result ≡ Next.ReadFault → HadToRead (opened_in self.old) (held_in self.old)
             (S.left (source_of self.old)) (S.left (source_of self.new)) }
         ensures no_want { result ≢ Next.OutOfMemory }

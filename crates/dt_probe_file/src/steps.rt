@@ -1,4 +1,4 @@
-ghost use Rattle.std.specs.Prelude.{◌≡◌, ◌≢◌, ◌<◌, ◌≤◌, ◌++◌, ℕ, List, [], true, false, None, Some, IfSome, OnErr, length};
+ghost use Rattle.std.specs.Prelude.{◌≡◌, ◌≢◌, ◌<◌, ◌≤◌, ◌++◌, ℕ, List, [], true, false, None, Some, IfSome, OnErr, OnOk, length};
 ghost use Rattle.dt_record.specs.Spelling.{end_bytes};
 ghost use Rattle.dt_record.specs.Streams.{Continues, Rose};
 ghost use Rattle.dt_probe_file.specs.Asking.{HadToRead};
@@ -56,6 +56,7 @@ fn is_more<S: Source>(source: &mut S, held: &mut Held) -> Result<bool, Failed>
     ensures whole { whole held.new (S.left source.new) ≡ whole held.old (S.left source.old) }
     ensures more { result ≡ Ok true → 0 < length held.new }
     ensures none { result ≡ Ok false → (held.new ≡ []) × IfSome (S.left source.new) (λ rest. rest ≡ []) }
+    ensures quiet { OnOk result (S.faults source.new ≡ S.faults source.old) }
     ensures fault { OnErr result (Rose (S.faults source.old) (S.faults source.new)) }
     ensures needed { OnErr result ((held.old ≡ []) × (S.left source.new ≡ S.left source.old)) }
     ensures never_falls { S.faults source.old ≤ S.faults source.new }
@@ -75,6 +76,7 @@ fn step_end<S: Source>(source: &mut S, held: &mut Held, opened: &Opened) -> Step
     ensures told { Takes (Some opened.now) (whole held.old (S.left source.old)) result.answer result.opened (whole held.new (S.left source.new)) }
     ensures step { Continues (progress_of (Some opened.now) None) result.answer (progress_of result.opened (ended_by result.answer)) }
     ensures sound { IfSome result.opened IsSound }
+    ensures quiet { result.answer ≢ Next.ReadFault → S.faults source.new ≡ S.faults source.old }
     ensures fault { result.answer ≡ Next.ReadFault → Rose (S.faults source.old) (S.faults source.new) }
     ensures needed { result.answer ≡ Next.ReadFault → (held.old ≡ end_bytes opened.now.events) × (S.left source.new ≡ S.left source.old) }
     ensures no_want { result.answer ≢ Next.OutOfMemory }
@@ -108,6 +110,7 @@ pub(crate) fn step_behind<S: Source>(source: &mut S, held: &mut Held, opened: &O
     ensures told { Takes (Some opened.now) (whole held.old (S.left source.old)) result.answer result.opened (whole held.new (S.left source.new)) }
     ensures step { Continues (progress_of (Some opened.now) None) result.answer (progress_of result.opened (ended_by result.answer)) }
     ensures sound { IfSome result.opened IsSound }
+    ensures quiet { result.answer ≢ Next.ReadFault → S.faults source.new ≡ S.faults source.old }
     ensures fault { result.answer ≡ Next.ReadFault → Rose (S.faults source.old) (S.faults source.new) }
     ensures needed { result.answer ≡ Next.ReadFault → HadToRead (Some opened.now) held.old (S.left source.old) (S.left source.new) }
     ensures no_want { result.answer ≢ Next.OutOfMemory }
@@ -133,6 +136,7 @@ pub(crate) fn step_header<S: Source>(source: &mut S, held: &mut Held) -> Step
     ensures told { Takes None (whole held.old (S.left source.old)) result.answer result.opened (whole held.new (S.left source.new)) }
     ensures step { Continues (progress_of None None) result.answer (progress_of result.opened (ended_by result.answer)) }
     ensures sound { IfSome result.opened IsSound }
+    ensures quiet { result.answer ≢ Next.ReadFault → S.faults source.new ≡ S.faults source.old }
     ensures fault { result.answer ≡ Next.ReadFault → Rose (S.faults source.old) (S.faults source.new) }
     ensures needed { result.answer ≡ Next.ReadFault → HadToRead None held.old (S.left source.old) (S.left source.new) }
     ensures no_want { result.answer ≢ Next.OutOfMemory }

@@ -2,7 +2,6 @@ use crate::FileProbes;
 use dt_record::{Body, Next, Probes, Record, Retire};
 use dt_source::MemSource;
 use std::alloc::Global;
-use std::process::Abort;
 use std::test::Fail;
 
 /// A file of version 1 in which hart 0 commits addi x1,x0,5 at the start of RAM in cycle 1.
@@ -63,98 +62,6 @@ fn both_versions_give_the_header_the_record_and_the_end(rt: HostRuntime) -> Resu
         let short = answers_in(rt.alloc(), &SHORT, piece, &[])?;
         assert_eq!(rt; short.as_slice(), wanted.as_slice());
     }
-    Ok(())
-}
-
-/// Sees that the bytes end the stream so, in pieces of any size.
-fn ends_malformed(rt: &impl Abort, alloc: Global, bytes: &[u8], offset: u64) -> Result<(), Fail> {
-    for piece in PIECES {
-        let answers = answers_in(alloc, bytes, piece, &[])?;
-        assert_eq!(rt; answers.last().copied(), Some(Next::Malformed { offset }));
-    }
-    Ok(())
-}
-
-#[test]
-fn a_wrong_byte_is_named_at_its_field_or_record(rt: HostRuntime) -> Result<(), Fail> {
-    let cases: [(usize, u8, u64); 14] = [
-        (0, 0, 0),
-        (7, 1, 0),
-        (8, 3, 8),
-        (9, 1, 8),
-        (10, 0, 10),
-        (10, 9, 10),
-        (11, 2, 11),
-        (15, 1, 12),
-        (16, 0, 16),
-        (16, 0xee, 16),
-        (34, 0x92, 16),
-        (17, 1, 16),
-        (46, 0xfe, 46),
-        (47, 2, 46),
-    ];
-    for (place, byte, offset) in cases {
-        let mut bytes = WIDE;
-        if place < bytes.len() {
-            bytes[place] = byte;
-        }
-        ends_malformed(&rt, rt.alloc(), &bytes, offset)?;
-    }
-    Ok(())
-}
-
-#[test]
-fn a_cut_file_is_malformed_at_what_is_not_whole(rt: HostRuntime) -> Result<(), Fail> {
-    let cases: [(usize, u64); 11] = [
-        (0, 0),
-        (5, 0),
-        (8, 8),
-        (9, 8),
-        (12, 12),
-        (16, 16),
-        (30, 16),
-        (45, 16),
-        (46, 46),
-        (47, 46),
-        (54, 46),
-    ];
-    for (len, offset) in cases {
-        ends_malformed(&rt, rt.alloc(), &WIDE[..len.min(55)], offset)?;
-    }
-    Ok(())
-}
-
-#[test]
-fn version_2_is_malformed_at_the_record_or_the_end(rt: HostRuntime) -> Result<(), Fail> {
-    let mut padded = SHORT.to_vec(rt.alloc())?;
-    padded.insert(30, 0)?;
-    assert_eq!(rt; padded.len(), 40);
-    padded[29] = 0x85;
-    ends_malformed(&rt, rt.alloc(), &padded, 16)?;
-    let mut counted = SHORT;
-    counted[31] = 2;
-    ends_malformed(&rt, rt.alloc(), &counted, 30)?;
-    Ok(())
-}
-
-#[test]
-fn what_follows_the_end_is_named(rt: HostRuntime) -> Result<(), Fail> {
-    let mut longer = WIDE.to_vec(rt.alloc())?;
-    longer.push(0)?;
-    ends_malformed(&rt, rt.alloc(), &longer, 55)?;
-    let mut twice = WIDE.to_vec(rt.alloc())?;
-    twice.extend_from_slice(&WIDE[46..])?;
-    ends_malformed(&rt, rt.alloc(), &twice, 55)?;
-    Ok(())
-}
-
-#[test]
-fn a_falling_stamp_is_named(rt: HostRuntime) -> Result<(), Fail> {
-    let mut second = WIDE;
-    second[18] = 0;
-    let mut bytes = WIDE[..46].to_vec(rt.alloc())?;
-    bytes.extend_from_slice(&second[16..])?;
-    ends_malformed(&rt, rt.alloc(), &bytes, 46)?;
     Ok(())
 }
 

@@ -1,1 +1,4 @@
+pub mod Chains
+pub mod Passing
 mod Placed
+mod Words

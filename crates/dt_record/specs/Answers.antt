@@ -1,6 +1,7 @@
 use Rattle.std.specs.Prelude.{ℕ, ◌≡◌, ◌<◌, ◌≤◌, ◌+◌, ◌⊎◌, ◌||◌, Bool, not, if◌then◌else◌, Option, Some, option_map, List, [], ◌∷◌, ◌++◌, length, take, drop, find, codes}
 use Rattle.std.specs.List.{list_any}
 use Rattle.std.specs.Str.{bytes_eq}
+use Rattle.dt_record.specs.declared.limits.TheConstants.{HART_LIMIT, RECORD_LIMIT, WRITE_LIMIT}
 use Rattle.dt_record.specs.declared.records.Record.{Record}
 use Rattle.dt_record.specs.declared.writes.What.{What}
 use Rattle.dt_record.specs.declared.writes.What.TheVariants.{Records, Writes}
@@ -70,8 +71,8 @@ pub record GoesOn (s : Reading) (bytes : List ℕ) (r : Record) (rest : List ℕ
 
 -- a file has room for one more record, which it has to have for this one to be a record of it
 pub record HasRoom (s : Reading) (r : Record) : Type 0 where
-  pub few_records : s.events < 4_194_304
-  pub few_writes : writes_with s r ≤ 1_048_576
+  pub few_records : s.events < RECORD_LIMIT
+  pub few_writes : writes_with s r ≤ WRITE_LIMIT
 
 -- neither a record that may stand there nor the end of so many records comes
 pub record IsBroken (s : Reading) (bytes : List ℕ) : Type 0 where
@@ -86,8 +87,8 @@ IsMalformed s bytes offset =
 
 -- what there is too much of with one more record, and its number: records come before writes
 abbrev pub IsTooMany : Reading → Record → What → ℕ → Type 0
-IsTooMany s r Records number = (4_194_304 ≤ s.events) × (number ≡ 4_194_305)
-IsTooMany s r Writes number = (s.events < 4_194_304) × (1_048_576 < writes_with s r) × (number ≡ 1_048_577)
+IsTooMany s r Records number = (RECORD_LIMIT ≤ s.events) × (number ≡ RECORD_LIMIT + 1)
+IsTooMany s r Writes number = (s.events < RECORD_LIMIT) × (WRITE_LIMIT < writes_with s r) × (number ≡ WRITE_LIMIT + 1)
 
 abbrev pub IsLimit : Reading → List ℕ → What → ℕ → Type 0
 IsLimit s bytes what number = (r : Record) × (rest : List ℕ) × GoesOn s bytes r rest × IsTooMany s r what number
@@ -107,7 +108,7 @@ AreAnswersAfter s bytes (OutOfMemory ∷ more) = ⊥
 -- the bytes begin with this header, and the bytes behind it give these answers
 pub record AreOpened (bytes : List ℕ) (version : Version) (harts : ℕ) (wide : Bool) (more : List Next) : Type 0 where
   pub some_hart : 1 ≤ harts
-  pub few_harts : harts ≤ 8
+  pub few_harts : harts ≤ HART_LIMIT
   pub rest : List ℕ
   pub spelled : bytes ≡ header_bytes version harts wide ++ rest
   pub after : AreAnswersAfter (opened version harts) rest more

@@ -1,5 +1,6 @@
 use Rattle.std.specs.Prelude.{ℕ, ◌≡◌, ◌<◌, ◌^◌, ◌/◌, ◌%◌, ◌==◌, ◌&&◌, ◌||◌, Bool, true, not, List, [], ◌∷◌, length, nat_lt, nat_le, IsTrue}
 use Rattle.std.specs.List.{list_all, AllByRecursion}
+use Rattle.dt_record.specs.declared.limits.TheConstants.{HART_LIMIT, LINE_SIZE, RAM_START, RAM_END}
 use Rattle.dt_record.specs.declared.records.Record.{Record}
 use Rattle.dt_record.specs.declared.records.Retire.{Retire}
 use Rattle.dt_record.specs.declared.records.Body.{Body}
@@ -36,11 +37,11 @@ pub record FitsRecord (r : Record) : Type 0 where
 
 -- an address of RAM
 abbrev pub is_in_ram : ℕ → Bool
-is_in_ram addr = nat_le 0x8000_0000 addr && nat_lt addr 0x8400_0000
+is_in_ram addr = nat_le RAM_START addr && nat_lt addr RAM_END
 
 -- the address of a 64-byte line of RAM
 abbrev pub is_ram_line : ℕ → Bool
-is_ram_line line = (line % 64 == 0) && is_in_ram line
+is_ram_line line = (line % LINE_SIZE == 0) && is_in_ram line
 
 -- a 32-bit instruction, or a 16-bit one with its upper half zero
 abbrev pub is_instruction : ℕ → Bool
@@ -105,7 +106,7 @@ body_bounds stamp (Refill line bytes) = bound 10 (is_ram_line line) ∷ []
 body_bounds stamp Beat = []
 
 abbrev pub bounds_of : Record → List Bound
-bounds_of r = bound 1 (nat_lt r.hart 8) ∷ body_bounds r.stamp r.body
+bounds_of r = bound 1 (nat_lt r.hart HART_LIMIT) ∷ body_bounds r.stamp r.body
 
 -- every bound of the record holds
 abbrev pub is_lawful : Record → Bool

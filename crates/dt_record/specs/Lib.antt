@@ -1,9 +1,13 @@
 pub mod Actions
 pub mod Answers
+pub mod Blocks
+pub mod Filling
 pub mod Image
 pub mod KeyLaws
 pub mod Keys
+pub mod Kinds
 pub mod Lawful
+pub mod Lent
 pub mod Letters
 pub mod LoadSources
 pub mod Marks
@@ -13,6 +17,7 @@ pub mod Reasons
 pub mod Spelling
 pub mod Streams
 pub mod Tags
+pub mod Versions
 pub mod Visible
 pub mod WorkedFile
 pub mod Writes

@@ -1,4 +1,5 @@
 use Rattle.std.specs.Prelude.{ℕ, ◌≡◌, ◌≤◌, ◌<◌, ◌==◌, Bool, if◌then◌else◌, List, [], ◌∷◌, ◌++◌, length, filter, codes}
+use Rattle.dt_record.specs.declared.limits.TheConstants.{HART_LIMIT, RECORD_LIMIT, WRITE_LIMIT}
 use Rattle.dt_record.specs.declared.records.Record.{Record}
 use Rattle.dt_record.specs.Lawful.{FitsRecord, IsLawful}
 use Rattle.dt_record.specs.Spelling.{Version, One, Two, half, word, flag, record_bytes, end_bytes}
@@ -40,7 +41,7 @@ AreRecords harts last (r ∷ rs) = IsNext harts last r × AreRecords harts (stam
 pub record IsProbeFile (bytes : List ℕ) (version : Version) (harts : ℕ) (wide : Bool) (records : List Record) : Type 0 where
   pub spelled : bytes ≡ header_bytes version harts wide ++ records_bytes version no_stamps records ++ end_bytes (length records)
   pub some_hart : 1 ≤ harts
-  pub few_harts : harts ≤ 8
+  pub few_harts : harts ≤ HART_LIMIT
   pub each : AreRecords harts no_stamps records
-  pub few_records : length records ≤ 4_194_304
-  pub few_writes : length (filter writes_memory records) ≤ 1_048_576
+  pub few_records : length records ≤ RECORD_LIMIT
+  pub few_writes : length (filter writes_memory records) ≤ WRITE_LIMIT

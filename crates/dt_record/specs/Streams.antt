@@ -1,4 +1,5 @@
 use Rattle.std.specs.Prelude.{ℕ, ◌≡◌, ◌<◌, ◌≤◌, ◌+◌, ◌⊎◌, Bool, if◌then◌else◌, Option, None, Some, IsSome, IsSomeAnd, List, ◌∷◌}
+use Rattle.dt_record.specs.declared.limits.TheConstants.{HART_LIMIT, RECORD_LIMIT, WRITE_LIMIT}
 use Rattle.dt_record.specs.declared.records.Record.{Record}
 use Rattle.dt_record.specs.declared.streams.Next.{Next}
 use Rattle.dt_record.specs.declared.streams.Next.TheVariants.{Header, Event, End, Malformed, Limit, ReadFault, OutOfMemory}
@@ -30,7 +31,7 @@ pub record IsFresh (p : Progress) : Type 0 where
 pub record TakesHeader (old : Progress) (harts : ℕ) (wide : Bool) (new : Progress) : Type 0 where
   pub first : old.harts ≡ None
   pub some_hart : 1 ≤ harts
-  pub few_harts : harts ≤ 8
+  pub few_harts : harts ≤ HART_LIMIT
   pub harts_are : new.harts ≡ Some harts
   pub wide_is : new.wide ≡ wide
   pub no_stamps : (hart : ℕ) → new.stamps hart ≡ 0
@@ -45,9 +46,9 @@ pub record TakesRecord (old : Progress) (r : Record) (new : Progress) : Type 0 w
   pub wide_stays : new.wide ≡ old.wide
   pub stamps_are : (hart : ℕ) → new.stamps hart ≡ stamped old.stamps r hart
   pub one_event : new.events ≡ old.events + 1
-  pub few_events : new.events ≤ 4_194_304
+  pub few_events : new.events ≤ RECORD_LIMIT
   pub one_write : new.writes ≡ old.writes + (if writes_memory r then 1 else 0)
-  pub few_writes : new.writes ≤ 1_048_576
+  pub few_writes : new.writes ≤ WRITE_LIMIT
   pub open_still : new.ended ≡ None
 
 -- the stream is over with this answer

@@ -1,17 +1,9 @@
 ghost use Rattle.std.specs.Prelude.{◌≡◌, ◌+◌, ◌^◌, ◌<◌, ◌≤◌, length, IfOk};
 ghost use Rattle.dt_record.specs.Image.{image_byte};
 
+use crate::limits::{IMAGE_LIMIT, RAM_END, RAM_START};
 use std::alloc::{AllocError, Global};
 use std::marker::Model;
-
-/// The first address of RAM.
-pub const RAM_START: u64 = 0x8000_0000;
-
-/// The first address after RAM.
-pub const RAM_END: u64 = 0x8400_0000;
-
-/// How many bytes an image may have.
-pub const IMAGE_LIMIT: usize = 16_777_216;
 
 /// A memory image: raw bytes that are placed at the start of RAM. The rest of RAM is zero. A
 /// contract sees an image as the list of its bytes.
@@ -22,18 +14,19 @@ pub struct Image {
 
 impl Model for Image {
     ghost use Rattle.std.specs.Prelude.{List, ℕ, ◌≤◌, vec_len};
+    ghost use Rattle.dt_record.specs.declared.limits.TheConstants.{IMAGE_LIMIT};
 
     ghost Value = { List ℕ };
 
     ghost view = { λ image. image.bytes.items };
 
-    ghost invariant = { λ image. vec_len image.bytes ≤ 16777216 };
+    ghost invariant = { λ image. vec_len image.bytes ≤ IMAGE_LIMIT };
 }
 
 impl Image {
     /// The image of these bytes, at most `IMAGE_LIMIT` of them. The first stands at `RAM_START`.
     pub fn of(bytes: Vec<u8>) -> Image
-        requires { length bytes.items ≤ 16777216 }
+        requires { length bytes.items ≤ IMAGE_LIMIT }
         ensures { result ≡ bytes.items }
     {
         Image { bytes }
@@ -41,12 +34,19 @@ impl Image {
 
     /// The byte at an address of RAM when nothing has been written yet.
     pub fn byte(&self, addr: u64) -> u8
-        requires in_ram { 0x8000_0000 ≤ addr }
-        requires before_end { addr < 0x8400_0000 }
+        requires in_ram { RAM_START ≤ addr }
+        requires before_end { addr < RAM_END }
         ensures { result ≡ image_byte self.now addr }
     {
         let at = (addr - RAM_START) as usize;
         self.bytes.get(at).copied().unwrap_or(0)
+    }
+
+    /// The bytes.
+    pub fn bytes(&self) -> &[u8]
+        ensures { result.now ≡ self.now }
+    {
+        self.bytes.as_slice()
     }
 
     /// The same image in memory of its own. An `Err` is want of memory.

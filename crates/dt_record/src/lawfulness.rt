@@ -1,15 +1,16 @@
 ghost use Rattle.std.specs.Prelude.{◌≡◌};
-ghost use Rattle.dt_record.specs.Lawful.{is_lawful, is_masked, is_byte_masked, is_instruction, is_ram_line, is_in_ram, are_trap_bits, is_trap_cause, is_atomic_place, is_atomic_value, is_mode, Bound, body_bounds};
+ghost use Rattle.dt_record.specs.Lawful.{is_lawful, is_masked, is_byte_masked, is_instruction, are_trap_bits, is_trap_cause, is_atomic_place, is_atomic_value, is_mode, Bound, body_bounds};
 ghost use Rattle.std.specs.List.{list_all};
 
-use crate::images::{RAM_END, RAM_START};
+use crate::limits::HART_LIMIT;
+use crate::places::{is_in_ram, is_ram_line};
 use crate::records::{Body, Record};
 
 /// Whether the record keeps the bounds of its fields.
 pub fn lawful(event: &Record) -> bool
     ensures { result ≡ is_lawful event.now }
 {
-    event.hart < 8 && is_body_lawful(event.stamp, &event.body)
+    event.hart < HART_LIMIT && is_body_lawful(event.stamp, &event.body)
 }
 
 fn is_body_lawful(stamp: u64, body: &Body) -> bool
@@ -39,8 +40,8 @@ fn is_body_lawful(stamp: u64, body: &Body) -> bool
             mask,
             count,
             bytes,
-        } => is_line(*line) && *mask != 0 && *count != 0 && is_clear_outside(*mask, bytes),
-        Body::Refill { line, .. } => is_line(*line),
+        } => is_ram_line(*line) && *mask != 0 && *count != 0 && is_clear_outside(*mask, bytes),
+        Body::Refill { line, .. } => is_ram_line(*line),
         Body::Beat => true,
     }
 }
@@ -69,22 +70,10 @@ fn is_known_mode(mode: u8) -> bool
     mode == 0 || mode == 1 || mode == 3
 }
 
-fn is_ram(addr: u64) -> bool
-    ensures { result ≡ is_in_ram addr }
-{
-    RAM_START <= addr && addr < RAM_END
-}
-
-fn is_line(line: u64) -> bool
-    ensures { result ≡ is_ram_line line }
-{
-    line % 64 == 0 && is_ram(line)
-}
-
 fn fits_place(paddr: u64, width: u8) -> bool
     ensures { result ≡ is_atomic_place paddr width }
 {
-    (width == 4 || width == 8) && paddr % u64::from(width) == 0 && is_ram(paddr)
+    (width == 4 || width == 8) && paddr % u64::from(width) == 0 && is_in_ram(paddr)
 }
 
 fn fits_value(width: u8, wrote: bool, new: u64) -> bool

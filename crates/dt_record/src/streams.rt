@@ -1,8 +1,10 @@
 ghost use Rattle.std.specs.Borrow.{GName};
-ghost use Rattle.std.specs.Prelude.{◌≡◌, ℕ, ◌≤◌, ◌↔◌, List, Option, None, IsTrue, IsSome, IsNone};
+ghost use Rattle.std.specs.Prelude.{◌≡◌, ◌≢◌, ℕ, ◌<◌, ◌≤◌, ◌↔◌, List, [], length, Option, None, IsTrue, IsSome, IsNone};
 ghost use Rattle.dt_record.specs.declared.streams.Next.{Next};
 ghost use Rattle.dt_record.specs.Streams.{Progress, Continues, TakesAnswer, Rose};
+ghost use Rattle.dt_record.specs.Filling.{ContinuesBy, TakesAnswers, block_answers};
 
+use crate::blocks::Block;
 use crate::records::Record;
 use crate::writes::What;
 
@@ -17,6 +19,23 @@ pub enum Next {
     /// All records have come: so many.
     End { count: u64 },
     /// The bytes are no probe file: the offset of the first header field or record that is wrong.
+    Malformed { offset: u64 },
+    /// There are too many records or writes: the number, from 1, of the first too many.
+    Limit { what: What, number: u64 },
+    /// The source of the records failed.
+    ReadFault,
+    /// The stream was refused memory.
+    OutOfMemory,
+}
+
+/// Why a call that fills a block gave no more records.
+#[derive(Clone, Copy, Debug, PartialEq, Eq)]
+pub enum Stop {
+    /// The block is full: more may come into another one.
+    Full,
+    /// All records have come: so many.
+    End { count: u64 },
+    /// The bytes are no probe file: the offset of the first record that is wrong.
     Malformed { offset: u64 },
     /// There are too many records or writes: the number, from 1, of the first too many.
     Limit { what: What, number: u64 },
@@ -51,5 +70,34 @@ pub trait Probes {
         ensures told { TakesAnswer (left self.old) result (left self.new) }
         ensures rising { faults self.old ≤ faults self.new }
         ensures fault { result ≡ Next.ReadFault → Rose (faults self.old) (faults self.new) }
+        ensures quiet { result ≢ Next.ReadFault → faults self.new ≡ faults self.old }
         ensures same_lent { lent self.new ≡ lent self.old };
+
+    /// The next answers behind the header, as so many calls of `next` give them: the records go into
+    /// an empty block, and the answer that ends the stream is the stop.
+    fn fill(&mut self, block: &mut Block) -> Stop
+        requires goes_on { IsNone (progress self.old).ended }
+        requires headed { IsSome (progress self.old).harts }
+        requires empty { block.old.records ≡ [] }
+        ensures step { ContinuesBy (progress self.old) (block_answers block.new.records result) (progress self.new) }
+        ensures told { TakesAnswers (left self.old) (block_answers block.new.records result) (left self.new) }
+        ensures some { result ≡ Stop.Full → 0 < block.old.room → 0 < length block.new.records }
+        ensures rising { faults self.old ≤ faults self.new }
+        ensures fault { result ≡ Stop.ReadFault → Rose (faults self.old) (faults self.new) }
+        ensures quiet { result ≢ Stop.ReadFault → faults self.new ≡ faults self.old }
+        ensures same_lent { lent self.new ≡ lent self.old }
+    {
+        'filling: while block.has_room() {
+            match self.next() {
+                Next::Event(event) => block.push(&event),
+                Next::End { count } => return Stop::End { count },
+                Next::Malformed { offset } => return Stop::Malformed { offset },
+                Next::Limit { what, number } => return Stop::Limit { what, number },
+                Next::ReadFault => return Stop::ReadFault,
+                Next::OutOfMemory => return Stop::OutOfMemory,
+                Next::Header { .. } => unreachable!(),
+            }
+        }
+        Stop::Full
+    }
 }

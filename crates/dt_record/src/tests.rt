@@ -1,4 +1,10 @@
-use crate::{Body, Image, Key, Reason, Record, Retire, Write, lawful, tag_of, write_of};
+ghost use Rattle.std.specs.Prelude.{◌≡◌};
+
+use crate::{
+    Block, Body, Image, Key, Kind, Known, KnownByte, Next, Probes, Reason, Record, Records, Retire,
+    Steps, Stop, Version, Write, is_in_ram, is_ram_line, key_of, kind_of, lawful, tag_of, write_of,
+    writes_memory,
+};
 use std::test::Fail;
 
 const ADDI: Retire = Retire {
@@ -123,5 +129,125 @@ fn an_image_ends_in_zeros(rt: HostRuntime) -> Result<(), Fail> {
     let same = image.copy()?;
     assert_eq!(rt; same.byte(0x8000_0001), 2);
     assert_eq!(rt; same.byte(0x83ff_ffff), 0);
+    Ok(())
+}
+
+#[test]
+fn a_drain_has_a_key_and_a_kind(rt: HostRuntime) {
+    let event = drain(0x8000_0040, 1, 1, 7);
+    let key = Key {
+        stamp: 10,
+        hart: 1,
+        seq: 3,
+    };
+    assert_eq!(rt; key_of(&event, 3), key);
+    assert_eq!(rt; kind_of(&event.body), Kind::Drain);
+    assert_eq!(rt; Kind::with_tag(8), Some(Kind::Drain));
+    assert_eq!(rt; Kind::Drain.tag(), 8);
+    assert!(rt; writes_memory(&event));
+    assert!(rt; is_ram_line(0x8000_0040) && !is_in_ram(0x8400_0000));
+    assert_eq!(rt; Version::Two.number(), 2);
+}
+
+#[test]
+fn known_bytes_are_told_apart(rt: HostRuntime) -> Result<(), Fail> {
+    let key = Key {
+        stamp: 1,
+        hart: 0,
+        seq: 0,
+    };
+    let at = |addr: u64| KnownByte { addr, key };
+    let known = Known::of(vec![in rt.alloc(); at(0x8000_0000)]?);
+    let other = Known::of(vec![in rt.alloc(); at(0x8000_0001)]?);
+    assert!(rt; known.is_same(&known) && !known.is_same(&other));
+    let mut steps: Steps<()> = Steps::new();
+    steps.tick();
+    assert_eq!(rt; steps.taken(), 1);
+    Ok(())
+}
+
+/// Beats of one hart, one after another.
+#[derive(Drop)]
+struct Beats {
+    opened: bool,
+    to_come: u64,
+    count: u64,
+    ended: Option<Next>,
+}
+
+impl Probes for Beats {
+    ghost use Rattle.std.specs.Prelude.{false, None, Some, if◌then◌else◌};
+
+    ghost progress = { λ s. record {
+      harts = if s.opened then Some 1 else None;
+      wide = false;
+      stamps = λ _. 0;
+      events = s.count;
+      writes = 0;
+      ended = s.ended;
+    } };
+
+    ghost left = { λ _. None };
+
+    ghost faults = { λ _. 0 };
+
+    fn is_over(&self) -> bool {
+        self.ended.is_some()
+    }
+
+    fn next(&mut self) -> Next {
+        if !self.opened {
+            self.opened = true;
+            self.count = 0;
+            return Next::Header {
+                harts: 1,
+                wide: false,
+            };
+        }
+        if self.count < 4_194_304 && self.to_come > 0 {
+            self.count += 1;
+            self.to_come -= 1;
+            return Next::Event(Record {
+                stamp: 0,
+                hart: 0,
+                body: Body::Beat,
+            });
+        }
+        let last = Next::End { count: self.count };
+        self.ended = Some(last);
+        last
+    }
+}
+
+#[test]
+fn a_block_takes_records_up_to_the_end(rt: HostRuntime) -> Result<(), Fail> {
+    let mut beats = Beats {
+        opened: false,
+        to_come: 3,
+        count: 0,
+        ended: None,
+    };
+    let mut block = Block::new(rt.alloc())?;
+    let Next::Header { .. } = beats.next() else {
+        panic!(rt; "no header");
+    };
+    assert_eq!(rt; beats.fill(&mut block), Stop::End { count: 3 });
+    assert_eq!(rt; block.len(), 3);
+    assert_eq!(rt; block.get(2).hart, 0);
+    Ok(())
+}
+
+#[test]
+fn records_that_are_kept_are_lent_again(rt: HostRuntime) -> Result<(), Fail> {
+    let mut kept = Records::new(rt.alloc());
+    for stamp in [3, 5] {
+        kept.push(&Record {
+            stamp,
+            hart: 1,
+            body: Body::Beat,
+        })?;
+    }
+    assert_eq!(rt; kept.len(), 2);
+    assert_eq!(rt; (kept.get(0).stamp, kept.get(1).stamp), (3, 5));
     Ok(())
 }

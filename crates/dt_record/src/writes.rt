@@ -1,8 +1,8 @@
 ghost use Rattle.std.specs.Prelude.{◌≡◌, ℕ, ◌+◌, ◌-◌, ◌*◌, ◌%◌, ◌^◌, ◌≤◌, ◌⊎◌, ◌++◌, IsTrue, length, take, drop};
 ghost use Rattle.dt_record.specs.Lawful.{IsLawful, is_atomic_place};
-ghost use Rattle.dt_record.specs.Writes.{write_of_record, width_mask, line_with};
+ghost use Rattle.dt_record.specs.Writes.{write_of_record, writes_memory, width_mask, line_with};
 
-use crate::keys::Key;
+use crate::keys::{Key, key_of};
 use crate::records::{Body, Record};
 
 /// A write to memory, within one 64-byte line. Bit i of the mask says whether byte i is written; a
@@ -39,17 +39,24 @@ pub enum What {
     Writes,
 }
 
+/// Whether the record writes memory: a drain always, an atomic where it says so.
+pub fn writes_memory(event: &Record) -> bool
+    ensures { result ≡ writes_memory event.now }
+{
+    match event.body {
+        Body::Drain { .. } => true,
+        Body::Atomic { wrote, .. } => wrote,
+        _ => false,
+    }
+}
+
 /// The write that a lawful record makes, where it makes one: that of a drain, or of an atomic that
 /// wrote. `seq` is the record's number among its hart's records.
 pub fn write_of(event: &Record, seq: u32) -> Option<Write>
     requires { IsLawful event.now }
     ensures { result ≡ write_of_record seq event.now }
 {
-    let key = Key {
-        stamp: event.stamp,
-        hart: event.hart,
-        seq,
-    };
+    let key = key_of(event, seq);
     match event.body {
         Body::Drain {
             line,

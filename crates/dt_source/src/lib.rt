@@ -4,6 +4,7 @@
 #![tactic(auto)]
 
 mod counts;
+mod gates;
 mod lending;
 mod memory;
 mod system;
@@ -12,6 +13,7 @@ mod tests;
 mod traits;
 mod whole;
 
+pub use gates::{FreeGate, Gate, GateEvent};
 pub use memory::{CalmSource, MemSink, MemSource};
 pub use system::{FileSource, StdSink};
 pub use traits::{Failed, Sink, Source};

@@ -1,7 +1,7 @@
 //! Values from outside, the real file and the real writer, and calls that fail.
 use crate::{
-    CalmSource, Failed, FileSource, Filled, MemSink, MemSource, ReadRefusal, Sink, Source, StdSink,
-    fill, read_up_to, write_all,
+    CalmSource, Failed, FileSource, Filled, FreeGate, Gate, GateEvent, MemSink, MemSource,
+    ReadRefusal, Sink, Source, StdSink, fill, read_up_to, write_all,
 };
 use std::io::Write;
 use std::test::Fail;
@@ -37,6 +37,11 @@ fn fills_a_buffer(rt: HostRuntime) -> Result<(), Fail> {
     assert_eq!(rt; fill(&mut source, &mut buf), Filled::Ended { count: 2 });
     assert_eq!(rt; &buf[..2], b"ds".as_slice());
     Ok(())
+}
+
+#[test]
+fn a_free_gate_holds_nobody(_rt: HostRuntime) {
+    FreeGate.at(GateEvent::Segment { number: 0 });
 }
 
 #[test]

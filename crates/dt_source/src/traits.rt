@@ -1,5 +1,5 @@
 ghost use Rattle.std.specs.Borrow.{GName};
-ghost use Rattle.std.specs.Prelude.{◌≡◌, ◌<◌, ◌≤◌, ℕ, List, [], Option, None, IfOk, IfSome, OnErr, length, take};
+ghost use Rattle.std.specs.Prelude.{◌≡◌, ◌<◌, ◌≤◌, ℕ, List, [], Option, None, IfOk, IfSome, OnErr, OnOk, length, take};
 ghost use Rattle.dt_source.specs.Faults.{Rose};
 ghost use Rattle.dt_source.specs.Known.{TakesFrom, Appends};
 
@@ -26,6 +26,7 @@ pub trait Source {
             TakesFrom (left self.old) (take n buf.new) (left self.new)) }
         ensures end { result ≡ Ok 0 → IfSome (left self.new) (λ rest. rest ≡ []) }
         ensures failed_only { OnErr result (Rose (faults self.old) (faults self.new)) }
+        ensures quiet { OnOk result (faults self.new ≡ faults self.old) }
         ensures failed_takes_nothing { OnErr result (left self.new ≡ left self.old) }
         ensures never_falls { faults self.old ≤ faults self.new }
         ensures same_lent { lent self.new ≡ lent self.old };
@@ -47,6 +48,7 @@ pub trait Sink {
         ensures appends { IfOk result (λ n.
             Appends (written self.old) (take n piece.now) (written self.new)) }
         ensures failed_only { OnErr result (Rose (faults self.old) (faults self.new)) }
+        ensures quiet { OnOk result (faults self.new ≡ faults self.old) }
         ensures failed_appends_nothing { OnErr result (written self.new ≡ written self.old) }
         ensures never_falls { faults self.old ≤ faults self.new };
 }

@@ -1,4 +1,4 @@
-ghost use Rattle.std.specs.Prelude.{◌≡◌, ◌<◌, ◌≤◌, ◌+◌, ℕ, [], IfOk, IfSome, OnOk, OnErr, length, take, drop};
+ghost use Rattle.std.specs.Prelude.{◌≡◌, ◌≢◌, ◌<◌, ◌≤◌, ◌+◌, ℕ, [], IfOk, IfSome, OnOk, OnErr, length, take, drop};
 ghost use Rattle.dt_source.specs.Faults.{Rose};
 ghost use Rattle.dt_source.specs.Known.{TakesFrom, TakesSome, Appends};
 ghost use Rattle.dt_source.specs.Whole.{FillsAsTold};
@@ -49,6 +49,7 @@ fn read_front<S: Source>(source: &mut S, buf: &mut [u8], room: usize) -> Result<
         TakesFrom (S.left source.old) (take n buf.new) (S.left source.new)) }
     ensures end { result ≡ Ok 0 → IfSome (S.left source.new) (λ rest. rest ≡ []) }
     ensures failed_only { OnErr result (Rose (S.faults source.old) (S.faults source.new)) }
+    ensures quiet { OnOk result (S.faults source.new ≡ S.faults source.old) }
     ensures failed_takes_nothing { OnErr result (S.left source.new ≡ S.left source.old) }
     ensures never_falls { S.faults source.old ≤ S.faults source.new }
 {
@@ -65,6 +66,7 @@ pub fn read_behind<S: Source>(source: &mut S, buf: &mut [u8], at: usize) -> Resu
     ensures front_stays { take at buf.new ≡ take at buf.old }
     ensures end { result ≡ Ok 0 → IfSome (S.left source.new) (λ rest. rest ≡ []) }
     ensures failed_only { OnErr result (Rose (S.faults source.old) (S.faults source.new)) }
+    ensures quiet { OnOk result (S.faults source.new ≡ S.faults source.old) }
     ensures failed_takes_nothing { OnErr result (S.left source.new ≡ S.left source.old) }
     ensures never_falls { S.faults source.old ≤ S.faults source.new }
     ensures same_lent { S.lent source.new ≡ S.lent source.old }
@@ -87,6 +89,8 @@ pub fn read_up_to<S: Source>(
         → TakesSome (S.left source.old) (S.left source.new) (bound + 1) }
     ensures fault_only { result ≡ Err ReadRefusal.ReadFault
         → Rose (S.faults source.old) (S.faults source.new) }
+    ensures quiet { result ≢ Err ReadRefusal.ReadFault
+        → S.faults source.new ≡ S.faults source.old }
     ensures fault_takes { result ≡ Err ReadRefusal.ReadFault
         → ((n : ℕ) × (n ≤ bound) × TakesSome (S.left source.old) (S.left source.new) n) }
     ensures refused_takes { OnErr result
@@ -110,6 +114,7 @@ pub fn read_up_to<S: Source>(
 pub fn fill<S: Source>(source: &mut S, buf: &mut [u8]) -> Filled
     ensures told { FillsAsTold result (S.left source.old) buf.new (S.left source.new) }
     ensures failed_only { result ≡ Filled.Failed → Rose (S.faults source.old) (S.faults source.new) }
+    ensures quiet { result ≢ Filled.Failed → S.faults source.new ≡ S.faults source.old }
     ensures never_falls { S.faults source.old ≤ S.faults source.new }
 {
     let mut at = 0;
@@ -127,6 +132,7 @@ pub fn fill<S: Source>(source: &mut S, buf: &mut [u8]) -> Filled
 pub fn write_all<O: Sink>(sink: &mut O, text: &[u8]) -> Result<(), Failed>
     ensures ok { OnOk result (Appends (O.written sink.old) text.now (O.written sink.new)) }
     ensures failed_only { OnErr result (Rose (O.faults sink.old) (O.faults sink.new)) }
+    ensures quiet { OnOk result (O.faults sink.new ≡ O.faults sink.old) }
     ensures failed_appends_prefix { OnErr result ((n : ℕ) × (n < length text.now)
         × Appends (O.written sink.old) (take n text.now) (O.written sink.new)) }
     ensures never_falls { O.faults sink.old ≤ O.faults sink.new }

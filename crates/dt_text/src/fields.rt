@@ -1,4 +1,4 @@
-ghost use Rattle.std.specs.Prelude.{◌≡◌, [], ◌++◌, OnOk, map};
+ghost use Rattle.std.specs.Prelude.{◌≡◌, [], ◌++◌, OnOk, map, take, vec_len};
 ghost use Rattle.std.specs.Fmt.{decimal};
 ghost use Rattle.std.specs.Int.{w32, w64, to_be_bytes};
 ghost use Rattle.std.specs.List.{join_with_byte};
@@ -9,7 +9,8 @@ use dt_record::Key;
 use std::alloc::AllocError;
 
 fn put_name(out: &mut Vec<u8>, name: &str) -> Result<(), AllocError>
-    ensures { OnOk result (out.new.items ≡ out.old.items ++ field name.now []) }
+    ensures put { OnOk result (out.new.items ≡ out.old.items ++ field name.now []) }
+    ensures front { take (vec_len out.old) out.new.items ≡ out.old.items }
 {
     out.push(b' ')?;
     out.extend_from_slice(name.as_bytes())?;
@@ -18,7 +19,8 @@ fn put_name(out: &mut Vec<u8>, name: &str) -> Result<(), AllocError>
 }
 
 fn put_sixteen_digits(out: &mut Vec<u8>, number: u64) -> Result<(), AllocError>
-    ensures { OnOk result (out.new.items ≡ out.old.items ++ sixteen_digits number) }
+    ensures put { OnOk result (out.new.items ≡ out.old.items ++ sixteen_digits number) }
+    ensures front { take (vec_len out.old) out.new.items ≡ out.old.items }
 {
     let mut digits = [0; 16];
     let _ = hex::encode_to_slice(number.to_be_bytes(), &mut digits);
@@ -33,10 +35,11 @@ fn put_eight_digits(out: &mut Vec<u8>, number: u32) -> Result<(), AllocError>
     out.extend_from_slice(&digits)
 }
 
-/// Appends a decimal number. After want of memory `out` may end in a part of what was to come, as
-/// after each of these functions.
+/// Appends a decimal number. After want of memory `out` may end in a part of what was to come, behind
+/// what was there, as after each of these functions.
 pub fn put_number(out: &mut Vec<u8>, number: u64) -> Result<(), AllocError>
-    ensures { OnOk result (out.new.items ≡ out.old.items ++ decimal number) }
+    ensures put { OnOk result (out.new.items ≡ out.old.items ++ decimal number) }
+    ensures front { take (vec_len out.old) out.new.items ≡ out.old.items }
 {
     let text = format!(in *out.allocator(); "{number}")?;
     out.extend_from_slice(text.as_bytes())
@@ -45,7 +48,8 @@ pub fn put_number(out: &mut Vec<u8>, number: u64) -> Result<(), AllocError>
 /// Appends a key as `stamp.hart.seq`.
 #[tactic(auto, unfolding(crate::specs::Line::key_text))]
 pub fn put_key(out: &mut Vec<u8>, key: Key) -> Result<(), AllocError>
-    ensures { OnOk result (out.new.items ≡ out.old.items ++ key_text key) }
+    ensures put { OnOk result (out.new.items ≡ out.old.items ++ key_text key) }
+    ensures front { take (vec_len out.old) out.new.items ≡ out.old.items }
 {
     let Key { stamp, hart, seq } = key;
     let text = format!(in *out.allocator(); "{stamp}.{hart}.{seq}")?;
@@ -55,7 +59,8 @@ pub fn put_key(out: &mut Vec<u8>, key: Key) -> Result<(), AllocError>
 /// Appends ` name=` and 16 hexadecimal digits.
 #[tactic(auto, unfolding(crate::specs::Line::double_field))]
 pub fn put_double(out: &mut Vec<u8>, name: &str, number: u64) -> Result<(), AllocError>
-    ensures { OnOk result (out.new.items ≡ out.old.items ++ double_field name.now number) }
+    ensures put { OnOk result (out.new.items ≡ out.old.items ++ double_field name.now number) }
+    ensures front { take (vec_len out.old) out.new.items ≡ out.old.items }
 {
     put_name(out, name)?;
     put_sixteen_digits(out, number)
@@ -73,7 +78,8 @@ pub(crate) fn put_word(out: &mut Vec<u8>, name: &str, number: u32) -> Result<(),
 /// Appends ` name=` and a decimal number.
 #[tactic(auto, unfolding(crate::specs::Line::decimal_field))]
 pub fn put_decimal(out: &mut Vec<u8>, name: &str, number: u64) -> Result<(), AllocError>
-    ensures { OnOk result (out.new.items ≡ out.old.items ++ decimal_field name.now number) }
+    ensures put { OnOk result (out.new.items ≡ out.old.items ++ decimal_field name.now number) }
+    ensures front { take (vec_len out.old) out.new.items ≡ out.old.items }
 {
     put_name(out, name)?;
     put_number(out, number)

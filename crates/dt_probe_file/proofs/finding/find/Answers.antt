@@ -5,7 +5,7 @@ use Rattle.dt_probe_file.proofs.AskingFor.{had_to_read}
 use Rattle.dt_probe_file.proofs.finding.find.Goals as goal
 
 pub loop-event-init : goal.loop-event-init
-loop-event-init g c = record { whole = refl; reads = reads_stay _ _ _ _ refl refl; counted = omega arith; same_lent = refl }
+loop-event-init g c = record { whole = refl; reads = reads_stay _ _ _ _ refl refl; quiet = refl; same_lent = refl }
 
 pub loop-event-preserved : goal.loop-event-preserved
 loop-event-preserved g c =
@@ -13,7 +13,7 @@ loop-event-preserved g c =
     record {
       whole = c.in-Ok-true.ensures.whole ∙ before.whole;
       reads = reads_twice _ _ _ _ _ _ before.reads c.in-Ok-true.ensures.reads;
-      counted = omega (arith, before.counted, c.in-Ok-true.ensures.never_falls);
+      quiet = c.in-Ok-true.ensures.quiet ∙ before.quiet;
       same_lent = c.in-Ok-true.ensures.same_lent ∙ before.same_lent;
     }
 

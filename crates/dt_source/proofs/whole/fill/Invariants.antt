@@ -1,4 +1,4 @@
-use Rattle.std.proofs.Common.{length, ◌-◌, ◌≤◌, take}
+use Rattle.std.proofs.Common.{◌≡◌, length, ◌-◌, ◌≤◌, take}
 use Rattle.dt_source.specs.Known.{TakesFrom}
 use Rattle.dt_source.proofs.whole.fill.Given as goal
 
@@ -9,7 +9,7 @@ invariant-loop-at g l =
     record {
       within : l.at ≤ length l.buf;
       taken : TakesFrom (left l.fn.source) (take l.at l.buf) (left l.source);
-      counted : g.S.Source.faults l.fn.source ≤ g.S.Source.faults l.source;
+      quiet : g.S.Source.faults l.source ≡ g.S.Source.faults l.fn.source;
     }
 
 abbrev pub decreases-loop-at : goal.decreases-loop-at

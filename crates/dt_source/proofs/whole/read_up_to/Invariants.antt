@@ -9,7 +9,7 @@ invariant-loop-chunk g l =
     record {
       within : length l.bytes.items ≤ l.bound + 1;
       taken : TakesFrom (left l.fn.source) l.bytes.items (left l.source);
-      counted : g.S.Source.faults l.fn.source ≤ g.S.Source.faults l.source;
+      quiet : g.S.Source.faults l.source ≡ g.S.Source.faults l.fn.source;
       whole : length l.chunk ≡ 4096;
     }
 

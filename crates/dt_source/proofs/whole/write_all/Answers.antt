@@ -1,4 +1,4 @@
-use Rattle.std.proofs.Common.{arith}
+use Rattle.std.proofs.Common.{◌∙◌, arith}
 use Rattle.std.proofs.lemmas.List.{take_rest}
 use Rattle.dt_source.proofs.Steps.{Appends-more}
 use Rattle.dt_source.proofs.whole.write_all.Goals as goal
@@ -9,5 +9,5 @@ loop-at-preserved g c = record {
   appended =
       Appends-more _ _ _ _ _ _ c.loop-at.invariant.appended
       (rw (take_rest c.args.text.now c.loop-at.at) at c.in_ok-at.ensures.appends);
-  counted = omega (arith, c.loop-at.invariant.counted, c.in_ok-at.ensures.never_falls);
+  quiet = c.in_ok-at.ensures.quiet ∙ c.loop-at.invariant.quiet;
 }

@@ -1,4 +1,4 @@
-use Rattle.std.proofs.Common.{◌≤◌, ◌-◌, length, take}
+use Rattle.std.proofs.Common.{◌≡◌, ◌≤◌, ◌-◌, length, take}
 use Rattle.dt_source.specs.Known.{Appends}
 use Rattle.dt_source.proofs.whole.write_all.Given as goal
 
@@ -9,7 +9,7 @@ invariant-loop-at g l =
     record {
       within : l.at ≤ length l.text;
       appended : Appends (written l.fn.sink) (take l.at l.text) (written l.sink);
-      counted : g.O.Sink.faults l.fn.sink ≤ g.O.Sink.faults l.sink;
+      quiet : g.O.Sink.faults l.sink ≡ g.O.Sink.faults l.fn.sink;
     }
 
 abbrev pub decreases-loop-at : goal.decreases-loop-at

@@ -12,6 +12,6 @@ returns c =
     let all : take c.loop-number.number-index others ≡ drop 1 xs = take_all c.loop-number.number-index others c.loop-number-test.false ∙ take_rest xs 1 in
     c.loop-number.invariant
     ∙ ap (λ (t : List ℕ). c.put_sixteen_digits.new.out.items ++ flat_map (λ n. 44 ∷ sixteen_digits n) t) all
-    ∙ ap (λ (t : List ℕ). t ++ flat_map (λ n. 44 ∷ sixteen_digits n) (drop 1 xs)) c.in_ok-put_sixteen_digits.ensures
+    ∙ ap (λ (t : List ℕ). t ++ flat_map (λ n. 44 ∷ sixteen_digits n) (drop 1 xs)) c.in_ok-put_sixteen_digits.ensures.put
     ∙ append_assoc c.args.out.now.items (sixteen_digits (get_or xs 0 0)) (flat_map (λ n. 44 ∷ sixteen_digits n) (drop 1 xs))
     ∙ ap (λ (t : List ℕ). c.args.out.now.items ++ t) (sym (joined sixteen_digits xs c.in-len1-up.len_at_least))
