@@ -1,4 +1,5 @@
 mod AllowedAtomics
+mod AskedAlone
 mod CheckSteps
 mod FilledSources
 mod FirstWrites

@@ -6,12 +6,12 @@ ghost use Rattle.dt_rules.specs.Reservations.{is_live};
 ghost use Rattle.dt_sources.specs.Knowing.{Knows};
 ghost use Rattle.dt_stores.specs.Standing.{StandsFor};
 ghost use Rattle.dt_atomics.specs.Answers.{IsAtomicAnswer, atomic_letters};
-ghost use Rattle.dt_atomics.specs.Asking.{has_failed};
+ghost use Rattle.dt_atomics.specs.Asking.{has_failed, is_conditional};
 ghost use Rattle.dt_atomics.specs.Grounds.{atomic_grounds};
 ghost use Rattle.dt_atomics.specs.Newer.{HasNewerByte};
 ghost use Rattle.dt_atomics.specs.Reading.{sources_of};
 
-use crate::accesses::{AtomicAccess, has_failed, line_of};
+use crate::accesses::{AtomicAccess, has_failed, is_conditional, line_of};
 use crate::draining::all_drained;
 use crate::reading::{has_newer, number_at, sources};
 use crate::values::{success, value, write};
@@ -51,11 +51,12 @@ pub fn atomic(
     Ok(allowed(m, l, k, live, x))
 }
 
-/// Whether the hart has a live reservation of the atomic's line.
+/// Whether the atomic is an SC that finds a live reservation of its line. An LR and an AMO ask
+/// nothing of it, so the writes since the LR are looked through for an SC alone.
 fn may_succeed(m: &Moments, reserved: Option<(u64, Key)>, key: Key, x: AtomicAccess) -> bool
-    ensures { result ≡ is_live m.now.writes reserved (line_of x.paddr) key }
+    ensures { result ≡ (is_conditional x.op && is_live m.now.writes reserved (line_of x.paddr) key) }
 {
-    sc_live(m, reserved, line_of(x.paddr), key)
+    is_conditional(x.op) && sc_live(m, reserved, line_of(x.paddr), key)
 }
 
 /// The moment at which an atomic with this key takes place.

@@ -5,6 +5,7 @@ mod KnowingLaws
 mod KnownFloors
 mod Places
 mod Ranks
+mod Steady
 mod TriedMoments
 mod Untaken
 mod YoungestStores

@@ -1,4 +1,4 @@
-ghost use Rattle.std.specs.Prelude.{◌≡◌, ℕ, ◌+◌, ◌≤◌, ◌<◌, List, Some, true, false, length, take, slice_get, IsTrue, MatchOption};
+ghost use Rattle.std.specs.Prelude.{◌≡◌, ℕ, ◌+◌, ◌%◌, ◌≤◌, ◌<◌, List, Some, true, false, length, take, slice_get, IsTrue, MatchOption};
 ghost use Rattle.dt_record.specs.Actions.{Action};
 ghost use Rattle.dt_stores.specs.Standing.{StandsFor};
 ghost use Rattle.dt_stores.specs.Draining.{forward_after};
@@ -10,7 +10,7 @@ use crate::tries::{LoadByte, is_fit, origins_at};
 use dt_local::Local;
 use dt_record::{LoadAsk, Sources};
 use dt_stores::Stores;
-use dt_versions::{Moments, Span};
+use dt_versions::{Moments, Span, steady_words_stay};
 
 /// Where the bytes of a load come from.
 #[derive(Clone, Copy, Debug, PartialEq, Eq)]
@@ -71,16 +71,26 @@ fn known_byte(s: &Stores, l: &Local, addr: u64, at: u64) -> LoadByte
     }
 }
 
-/// The least moment of a span that fits. This is the plain body: it tries one moment after another.
+/// The least moment of a span that fits, of bytes within one aligned word. From one change of the word
+/// to the next all moments fit alike, so none is tried but the span's first and the changes after it.
 fn least_fit(m: &Moments, span: Span, addr: u64, raw: u64, bytes: &[LoadByte]) -> Option<u32>
     requires within { span.last ≤ length m.now.writes }
     requires in_ram { 0x8000_0000 ≤ addr }
     requires before_end { addr + length bytes.now ≤ 0x8400_0000 }
+    requires some { 0 < length bytes.now }
+    requires in_word { addr % 8 + length bytes.now ≤ 8 }
     ensures least { MatchOption result ((k : ℕ) → span.first ≤ k → k ≤ span.last → are_fit m.now k addr raw bytes.now ≡ false) (λ found. (span.first ≤ found) × (found ≤ span.last) × (are_fit m.now found addr raw bytes.now ≡ true) × ((k : ℕ) → span.first ≤ k → k < found → are_fit m.now k addr raw bytes.now ≡ false)) }
 {
-    for k in span.first..=span.last {
+    // The proof of the loop uses this law.
+    steady_words_stay();
+    let mut k = span.first;
+    while k <= span.last {
         if is_fit(m, k, addr, raw, bytes) {
             return Some(k);
+        }
+        match m.next_change(k, addr) {
+            Some(next) => k = next,
+            None => return None,
         }
     }
     None

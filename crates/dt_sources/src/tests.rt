@@ -169,7 +169,9 @@ fn a_word_is_forwarded_into_a_double(rt: HostRuntime) -> Result<(), Fail> {
 fn a_drained_word_stands_where_its_drain_stands(rt: HostRuntime) -> Result<(), Fail> {
     let moments = counting(rt.alloc())?;
     let mut stores = with_word(rt.alloc())?;
-    stores.drain(key(6, 0, 4), LINE, 1);
+    let drained = key(6, 0, 4);
+    assert!(rt; stores.can_drain(drained));
+    stores.drain(drained, LINE, 1);
     for (known, found) in [
         (key(6, 0, 4), half_forwarded()),
         (key(6, 1, 0), Found::Nowhere),

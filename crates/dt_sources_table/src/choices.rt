@@ -22,8 +22,10 @@ pub fn choices(alloc: Global, run: &Run) -> Result<Vec<Option<u32>>, AllocError>
                 count,
                 mask,
             } => {
-                stores.drain(*key, line_of(*next), *count);
-                note(&mut local, line_of(*next), *mask, *key)?;
+                if stores.can_drain(*key) {
+                    stores.drain(*key, line_of(*next), *count);
+                    note(&mut local, line_of(*next), *mask, *key)?;
+                }
             }
             Event::Load {
                 place,

@@ -215,6 +215,9 @@ fn add_drain(
     dice: &mut Dice,
     key: Key,
 ) -> Result<(), AllocError> {
+    if !stores.can_drain(key) {
+        return Ok(());
+    }
     let next = dice.below(3) == 0;
     let count = if dice.below(3) == 0 { 2 } else { 1 };
     let line = line_of(next);

@@ -1,5 +1,5 @@
 -- What one moment of the window says of the chosen pair, and of there being none.
-use Rattle.std.proofs.Common.{◌≡◌, ℕ, ◌<◌, ◌≤◌, List, sym, subst, arith, true, IsTrue, inl, inr}
+use Rattle.std.proofs.Common.{◌≡◌, ℕ, ◌<◌, ◌≤◌, List, sym, ◌∙◌, subst, true, IsTrue, inl, inr}
 use Rattle.std.proofs.lemmas.Bool.{cases_lt}
 use Rattle.dt_record.specs.declared.writes.Write.{Write}
 use Rattle.dt_versions.specs.declared.moments.Span.{Span}
@@ -29,12 +29,11 @@ module _ (image : List ℕ) (writes : List Write) (window since : Span) (a : Wal
         held = newest;
       }
 
-  -- where the halfword never stands where a moment led, that moment is tried too
-  pub IsTriedAbove-next : (k : ℕ) (translated : WalkAnswer) → translated ≡ outcome_at image writes k a true
-      → IsTriedAbove k → HasNone (λ j. IsTrue (stands_at image writes j half translated)) since → (k1 k2 : ℕ) → IsWithin window k1 → k ≤ k1 → IsWithin since k2 → ¬ (IsFetched image writes a half k1 k2)
-  IsTriedAbove-next k translated same tried none k1 k2 inside above held_in fetched = elim (cases_lt k k1) [
+  -- where the halfword never stands where a moment led, the moments are tried from which on all lead there
+  pub IsTriedAbove-next : (from k : ℕ) (translated : WalkAnswer) → translated ≡ outcome_at image writes k a true
+      → ((j : ℕ) → from ≤ j → j ≤ k → outcome_at image writes j a true ≡ outcome_at image writes k a true)
+      → IsTriedAbove k → HasNone (λ j. IsTrue (stands_at image writes j half translated)) since → (k1 k2 : ℕ) → IsWithin window k1 → from ≤ k1 → IsWithin since k2 → ¬ (IsFetched image writes a half k1 k2)
+  IsTriedAbove-next from k translated same steady tried none k1 k2 inside above held_in fetched = elim (cases_lt k k1) [
     | inl later ↦ tried k1 k2 inside later held_in fetched
-    | inr here ↦
-        let now : k1 ≡ k = omega arith in
-        none k2 held_in (subst (λ t. IsTrue (stands_at image writes k2 half t)) (sym same) (subst (λ j. IsFetched image writes a half j k2) now fetched))
+    | inr here ↦ none k2 held_in (subst (λ t. IsTrue (stands_at image writes k2 half t)) (steady k1 above here ∙ sym same) fetched)
   ]

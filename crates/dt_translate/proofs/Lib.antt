@@ -3,3 +3,4 @@ mod Histories
 mod Moments
 mod Newests
 mod Pages
+mod Steadiness

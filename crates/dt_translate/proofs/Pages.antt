@@ -45,7 +45,7 @@ walk_of-even entry a even =
 reached-leads : (answer : WalkAnswer) → IsEven answer → LeadsToHalf (reached true answer)
 reached-leads (Page addr) even =
     elim (is_reachable true addr) as (λ b. is_reachable true addr ≡ b → LeadsToHalf (if b then Page addr else AccessFault)) [
-      | true ↦ λ inside. (grind (arith, nat_tests), grind (arith, nat_tests))
+      | true ↦ λ inside. (even, grind (arith, nat_tests), grind (arith, nat_tests))
       | false ↦ λ _. tt
     ] refl
 reached-leads PageFault even = tt

@@ -1,4 +1,4 @@
-use Rattle.std.specs.Prelude.{ℕ, ◌≤◌, ◌<◌, ◌+◌, ◌==◌, ⊤, Bool, true, false, IsTrue, List, Option, option_map, option_and_then, is_some}
+use Rattle.std.specs.Prelude.{ℕ, ◌≡◌, ◌≤◌, ◌<◌, ◌+◌, ◌%◌, ◌==◌, ⊤, Bool, true, false, IsTrue, List, Option, option_map, option_and_then, is_some}
 use Rattle.dt_record.specs.declared.writes.Write.{Write}
 use Rattle.dt_versions.specs.declared.moments.Span.{Span}
 use Rattle.dt_walk.specs.declared.arguments.WalkArgs.{WalkArgs}
@@ -48,8 +48,8 @@ fetch_moments image writes window since a half =
     let held = held_moment image writes since a half in
     option_and_then (λ k1. option_map (λ k2. (k1, k2)) (held k1)) (newest (λ k1. is_some (held k1)) window)
 
--- two bytes of RAM stand at the page address that a translation gave, where it gave one
+-- two bytes of RAM stand at the even page address that a translation gave, where it gave one
 abbrev pub LeadsToHalf : WalkAnswer → Type 0
-LeadsToHalf (Page addr) = (0x8000_0000 ≤ addr) × (addr + 1 < 0x8400_0000)
+LeadsToHalf (Page addr) = (addr % 2 ≡ 0) × (0x8000_0000 ≤ addr) × (addr + 1 < 0x8400_0000)
 LeadsToHalf PageFault = ⊤
 LeadsToHalf AccessFault = ⊤

@@ -5,7 +5,8 @@ ghost use Rattle.dt_translate.specs.Newest.{HasNone, IsNewest};
 ghost use Rattle.dt_translate.specs.Outcomes.{allowed_moment, half_at, outcome_at};
 
 use crate::outcomes::{fetch_outcome, half, outcome};
-use dt_versions::{Moments, Span};
+use crate::tables::steady_walk;
+use dt_versions::{Moments, Span, steady_words_stay};
 use dt_walk::{WalkAnswer, WalkArgs};
 
 /// The newest moment of the window whose outcome is the wanted one. None where no moment gives it,
@@ -23,10 +24,16 @@ pub fn allowed(
     ensures found { IfSome result (λ k. IsNewest (λ j. outcome_at m.now.image m.now.writes j a ram_only ≡ wanted) window k) }
     ensures none { IfNone result (HasNone (λ j. outcome_at m.now.image m.now.writes j a ram_only ≡ wanted) window) }
 {
-    for k in (window.first..=window.last).rev() {
+    let mut k = window.last;
+    'down: while window.first <= k {
         if outcome(m, k, a, ram_only) == wanted {
             return Some(k);
         }
+        let from = steady_walk(m, k, a);
+        if from == 0 {
+            return None;
+        }
+        k = from - 1;
     }
     None
 }
@@ -34,15 +41,23 @@ pub fn allowed(
 /// The newest moment of a span that has the halfword at the address.
 fn newest_half(m: &Moments, span: Span, addr: u64, wanted: u16) -> Option<u32>
     requires within { span.last ≤ length m.now.writes }
+    requires even { addr % 2 ≡ 0 }
     requires in_ram { 0x8000_0000 ≤ addr }
     requires before_end { addr + 1 < 0x8400_0000 }
     ensures found { IfSome result (λ k. IsNewest (λ j. IsTrue (half_at m.now.image m.now.writes j addr == wanted)) span k) }
     ensures none { IfNone result (HasNone (λ j. IsTrue (half_at m.now.image m.now.writes j addr == wanted)) span) }
 {
-    for k in (span.first..=span.last).rev() {
+    steady_words_stay();
+    let mut k = span.last;
+    'down: while span.first <= k {
         if half(m, k, addr) == wanted {
             return Some(k);
         }
+        let from = m.steady_from(k, addr);
+        if from == 0 {
+            return None;
+        }
+        k = from - 1;
     }
     None
 }
@@ -85,12 +100,18 @@ pub fn fetch(m: &Moments, window: Span, since: Span, a: WalkArgs, half: u16) -> 
     ensures none { IfNone result (IsNeverFetched m.now.image m.now.writes window since a half) }
 {
     let mut in_vain = WalkAnswer::AccessFault;
-    for moment in (window.first..=window.last).rev() {
+    let mut moment = window.last;
+    'down: while window.first <= moment {
         let translated = fetch_outcome(m, moment, a);
         if let Some(held) = newest_standing(m, since, half, translated, in_vain) {
             return Some((moment, held));
         }
         in_vain = translated;
+        let from = steady_walk(m, moment, a);
+        if from == 0 {
+            return None;
+        }
+        moment = from - 1;
     }
     None
 }

@@ -1,8 +1,10 @@
-ghost use Rattle.std.specs.Prelude.{◌≡◌, ◌≤◌, ◌<◌, ◌%◌, length};
+ghost use Rattle.std.specs.Prelude.{◌≡◌, ℕ, ◌≤◌, ◌<◌, ◌%◌, length, All};
+ghost use Rattle.dt_versions.specs.Words.{IsSteady};
+ghost use Rattle.dt_walk.specs.Walk.{CanWalk, IsEntryAddress, walk_of};
 ghost use Rattle.dt_translate.specs.Outcomes.{entry_at};
 
-use dt_versions::Moments;
-use dt_walk::PteReader;
+use dt_versions::{Moments, steady_words_stay};
+use dt_walk::{PteReader, WalkArgs, reads_decide, walk_reads};
 
 /// The page tables as they stand at one moment.
 #[derive(Clone, Copy)]
@@ -24,7 +26,6 @@ impl PteReader for Tables<'_> {
 }
 
 /// The page-table entry of 64 bits after the first k writes.
-#[tactic(auto, unfolding(crate::specs::Outcomes::entry_at, crate::specs::Outcomes::half_at))]
 fn entry(moments: &Moments, k: u32, addr: u64) -> u64
     requires within { k ≤ length moments.now.writes }
     requires aligned { addr % 8 ≡ 0 }
@@ -32,14 +33,33 @@ fn entry(moments: &Moments, k: u32, addr: u64) -> u64
     requires before_end { addr < 0x8400_0000 }
     ensures { result ≡ entry_at moments.now.image moments.now.writes k addr }
 {
-    u64::from_le_bytes([
-        moments.byte(k, addr),
-        moments.byte(k, addr + 1),
-        moments.byte(k, addr + 2),
-        moments.byte(k, addr + 3),
-        moments.byte(k, addr + 4),
-        moments.byte(k, addr + 5),
-        moments.byte(k, addr + 6),
-        moments.byte(k, addr + 7),
-    ])
+    moments.word(k, addr)
+}
+
+/// The least moment from which on, up to moment k, no entry changes that the walk for the access
+/// reads.
+pub fn steady_walk(moments: &Moments, k: u32, a: WalkArgs) -> u32
+    requires within { k ≤ length moments.now.writes }
+    requires args { CanWalk a }
+    ensures within { result ≤ k }
+    ensures steady { (j : ℕ) → result ≤ j → j ≤ k → walk_of (entry_at moments.now.image moments.now.writes j) a ≡ walk_of (entry_at moments.now.image moments.now.writes k) a }
+{
+    steady_words_stay();
+    reads_decide();
+    let tables = Tables { moments, moment: k };
+    steady_from(moments, k, walk_reads(&tables, a).as_slice())
+}
+
+/// The greatest of the moments from which on, up to moment k, these entries stay.
+fn steady_from(moments: &Moments, k: u32, addresses: &[u64]) -> u32
+    requires within { k ≤ length moments.now.writes }
+    requires lie { All IsEntryAddress addresses.now }
+    ensures within { result ≤ k }
+    ensures steady { All (λ addr. IsSteady moments.now.writes addr result k) addresses.now }
+{
+    let mut from = 0;
+    for addr in addresses {
+        from = u32::max(from, moments.steady_from(k, *addr));
+    }
+    from
 }

@@ -1,7 +1,16 @@
+mod Chained
+mod Covers
+mod CycleEnds
 mod Fronts
+mod Lasts
+mod Halving
 mod LaterWrites
+mod Lookups
+mod Newest
 mod Orders
 mod Places
 mod RisingSources
 mod Seams
+mod Steady
 mod VisibleEnds
+mod WordChanges

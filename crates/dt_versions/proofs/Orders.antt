@@ -77,8 +77,8 @@ key_below-last ws v key ordered found =
     ∙ ap (λ (xs : List Write). list_all (λ w. key_below w.key key) xs) (sym split)
 
 -- any write, for lemmas that want one
-no_key : Key
+abbrev no_key : Key
 no_key = record { stamp = 0; hart = 0; seq = 0 }
 
-pub no_write : Write
+abbrev pub no_write : Write
 no_write = record { key = no_key; line = 0; mask = 0; bytes = [] }

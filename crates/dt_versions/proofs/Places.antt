@@ -1,7 +1,7 @@
-use Rattle.std.proofs.Common.{ℕ, ◌≡◌, ◌-◌, ◌<◌, ◌≤◌, Bool, true, false, not, List, [], ◌∷◌, length, get_or, take, zero, suc, refl, ap, ◌∙◌, arith}
-use Rattle.std.specs.List.{list_all, list_any}
+use Rattle.std.proofs.Common.{ℕ, ◌≡◌, ◌-◌, ◌<◌, ◌≤◌, Bool, true, false, not, List, [], ◌∷◌, length, get_or, take, None, zero, suc, refl, ap, ◌∙◌, arith}
+use Rattle.std.specs.List.{list_all, list_any, find}
 use Rattle.std.specs.Prelude.{reverse}
-use Rattle.std.proofs.lemmas.Bool.{and_parts, and_from, not-true, or_from}
+use Rattle.std.proofs.lemmas.Bool.{and_parts, and_from, cond-false, not-true, or_from}
 use Rattle.std.proofs.lemmas.List.{get_or-reverse, length-reverse}
 
 -- Tests of all elements of a list, place by place.
@@ -38,3 +38,9 @@ take-take zero k xs below = refl
 take-take (suc j) zero xs below = absurd (omega arith)
 take-take (suc j) (suc k) [] below = refl
 take-take (suc j) (suc k) (x ∷ xs) below = ap (λ ys. x ∷ ys) (take-take j k xs (omega arith))
+
+pub find_none : {X : Type 0} (p : X → Bool) (xs : List X) → list_all (λ x. not (p x)) xs ≡ true → find p xs ≡ None
+find_none p [] none = refl
+find_none p (x ∷ xs) none =
+    let parts = and_parts (not (p x)) _ none in
+    cond-false (p x) _ (find p xs) (not-true (p x) parts.0) ∙ find_none p xs parts.1

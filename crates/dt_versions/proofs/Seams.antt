@@ -19,7 +19,7 @@ low_end first xs = length xs - suffix_len (λ x. not (first x)) xs
 abbrev pub high_end : {X : Type 0} → (X → Bool) → List X → ℕ
 high_end last xs = prefix_len (λ x. not (last x)) xs
 
-past_low : {X : Type 0} (first : X → Bool) (xs : List X) (d : X) (i : ℕ) → low_end first xs ≤ i → i < length xs → not (first (get_or xs i d)) ≡ true
+pub past_low : {X : Type 0} (first : X → Bool) (xs : List X) (d : X) (i : ℕ) → low_end first xs ≤ i → i < length xs → not (first (get_or xs i d)) ≡ true
 past_low first xs d i above within =
     let passes = prefix_len_passes (λ x. not (first x)) (reverse xs) (length xs - 1 - i) d (omega arith) in
     let place : length xs - 1 - (length xs - 1 - i) ≡ i = omega arith in
@@ -34,7 +34,7 @@ at_low first xs d some =
     ap (λ k. first (get_or xs k d)) (sym place)
     ∙ ap first (sym (get_or-reverse xs s d (omega arith))) ∙ not-false _ stops
 
-before_high : {X : Type 0} (last : X → Bool) (xs : List X) (d : X) (i : ℕ) → i < high_end last xs → not (last (get_or xs i d)) ≡ true
+pub before_high : {X : Type 0} (last : X → Bool) (xs : List X) (d : X) (i : ℕ) → i < high_end last xs → not (last (get_or xs i d)) ≡ true
 before_high last xs d i below = prefix_len_passes (λ x. not (last x)) xs i d below
 
 at_high : {X : Type 0} (last : X → Bool) (xs : List X) (d : X) → high_end last xs < length xs → last (get_or xs (high_end last xs) d) ≡ true
@@ -79,21 +79,4 @@ place-le-high last xs d k within front = elim (cases_lt (high_end last xs) k) [
       let none = list_all-at (λ x. not (last x)) (take k xs) i d front (omega (arith, length-take k xs)) in
       absurd (both_ways (last (get_or xs i d)) (not-true _ (ap (λ x. not (last x)) (sym (get_or-take k xs i d (omega arith))) ∙ none)) (at_high last xs d (omega arith)))
   | inr below ↦ below
-]
-
-pub low_end-le-length : {X : Type 0} (first : X → Bool) (xs : List X) → suffix_len (λ x. not (first x)) xs ≤ length xs
-low_end-le-length first xs = omega (arith, prefix_len-le-length (λ x. not (first x)) (reverse xs), length-reverse xs)
-
--- the high end, counted from a place at or below it
-pub high_end-after : {X : Type 0} (last : X → Bool) (k : ℕ) (xs : List X) → k ≤ high_end last xs → high_end last xs ≡ k + high_end last (drop k xs)
-high_end-after last zero xs below = omega arith
-high_end-after last (suc k) [] below = absurd (omega arith)
-high_end-after last (suc k) (x ∷ xs) below = elim (cases_Bool (not (last x))) [
-  | inl passes ↦
-      let one : high_end last (x ∷ xs) ≡ 1 + high_end last xs = cond-true (not (last x)) (1 + high_end last xs) 0 passes in
-      let rest = high_end-after last k xs (omega arith) in
-      omega arith
-  | inr stops ↦
-      let none : high_end last (x ∷ xs) ≡ 0 = cond-false (not (last x)) (1 + high_end last xs) 0 stops in
-      absurd (omega arith)
 ]

@@ -6,13 +6,11 @@ use Rattle.dt_record.specs.declared.keys.Key.{Key}
 use Rattle.dt_record.specs.declared.writes.Write.{Write}
 use Rattle.dt_record.specs.Keys.{key_below, KeyBelow}
 use Rattle.dt_record.specs.KeyLaws.{KeyBelow-chain, KeyBelow-from_stamps, KeyBelow-stamps, key_below-itself, key_below-back}
-use Rattle.dt_record.specs.Memory.{moment_of}
 use Rattle.dt_record.specs.Visible.{must_see, cannot_see}
 use Rattle.dt_versions.specs.History.{are_in_order}
 use Rattle.dt_versions.specs.Spans.{first_visible, last_visible, AreVisible}
 use Rattle.dt_versions.proofs.Orders.{KeyBelow-places, no_write}
-use Rattle.dt_versions.proofs.Seams.{AreApart, low-le-high, seen_between, unseen_between, low-le-place, place-le-high, high_end-after}
-use Rattle.dt_versions.proofs.Fronts.{length-filter-closed}
+use Rattle.dt_versions.proofs.Seams.{AreApart, low-le-high, seen_between, unseen_between, low-le-place, place-le-high}
 
 -- a write that has to be seen is of an earlier cycle, or before the record and not after the cycle
 must_see-means : (key : Key) (at : ℕ) (w : Write) → must_see key at w ≡ true → (w.key.stamp < at) ⊎ (KeyBelow w.key key × (w.key.stamp ≤ at))
@@ -31,7 +29,7 @@ cannot_see-means key at w cannot = elim (or_cases _ _ cannot) [
 ]
 
 -- what has to be seen stands before what cannot be seen
-pub KeyBelow-seen : (key : Key) (at : ℕ) (v w : Write) → at ≤ key.stamp → must_see key at v ≡ true → cannot_see key at w ≡ true → KeyBelow v.key w.key
+KeyBelow-seen : (key : Key) (at : ℕ) (v w : Write) → at ≤ key.stamp → must_see key at v ≡ true → cannot_see key at w ≡ true → KeyBelow v.key w.key
 KeyBelow-seen key at v w early must cannot = elim (must_see-means key at v must) [
   | inl before ↦ elim (cannot_see-means key at w cannot) [
     | inl after ↦ KeyBelow-from_stamps v.key w.key (omega arith)
@@ -44,7 +42,7 @@ KeyBelow-seen key at v w early must cannot = elim (must_see-means key at v must)
 ]
 
 -- so, where the writes are in order, no write that has to be seen stands at one that cannot be seen or after it
-pub AreApart-seen : (writes : List Write) (key : Key) (at : ℕ) → IsTrue (are_in_order writes) → at ≤ key.stamp → AreApart (must_see key at) (cannot_see key at) writes
+AreApart-seen : (writes : List Write) (key : Key) (at : ℕ) → IsTrue (are_in_order writes) → at ≤ key.stamp → AreApart (must_see key at) (cannot_see key at) writes
 AreApart-seen writes key at ordered early = record {
   apart = λ i j d before within cannot must.
       let v = get_or writes j d in
@@ -75,19 +73,5 @@ AreVisible-ends writes key at ordered early =
       never_empty = low-le-high must cannot writes no_write (AreApart-seen writes key at ordered early);
     }
 
--- the greatest visible moment, counted from the least on
-pub last_visible-after : (writes : List Write) (key : Key) (at : ℕ) → IsTrue (are_in_order writes) → at ≤ key.stamp
-    → last_visible writes key at ≡ first_visible writes key at + last_visible (drop (first_visible writes key at) writes) key at
-last_visible-after writes key at ordered early =
-    high_end-after (cannot_see key at) (first_visible writes key at) writes (AreVisible-ends writes key at ordered early).never_empty
-
 pub last_visible-le-length : (writes : List Write) (key : Key) (at : ℕ) → last_visible writes key at ≤ length writes
 last_visible-le-length writes key at = prefix_len-le-length (λ w. not (cannot_see key at w)) writes
-
--- the writes below a key are the first ones
-pub moment_of-end : (writes : List Write) (key : Key) → IsTrue (are_in_order writes)
-    → moment_of writes key ≡ length writes - suffix_len (λ w. not (key_below w.key key)) writes
-moment_of-end writes key ordered = length-filter-closed (λ w. key_below w.key key) writes no_write (record {
-  closed = λ i j d before within below.
-      KeyBelow-chain (get_or writes i d).key (get_or writes j d).key key (KeyBelow-places writes i j d ordered before within) below;
-})

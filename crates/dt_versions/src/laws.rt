@@ -1,5 +1,6 @@
 //! Laws of the definitions, for the crates above. The functions do nothing.
 ghost use Rattle.dt_versions.specs.Laws.{VisibleIsInterval, SourcesRise, LaterWritesDoNotCount};
+ghost use Rattle.dt_versions.specs.Words.{SteadyBytesStay, SteadySourcesStay, SteadyWordsStay};
 
 /// The visible moments of a record lie between two ends, and there is always one.
 pub fn visible_is_interval()
@@ -14,4 +15,11 @@ pub fn sources_rise()
 /// Writes of later cycles than a record's change nothing of what it sees or reads.
 pub fn later_writes_do_not_count()
     ensures { LaterWritesDoNotCount }
+{}
+
+/// Over a stretch in which no write covers a byte of a word, the word and its sources stay.
+pub fn steady_words_stay()
+    ensures bytes { SteadyBytesStay }
+    ensures sources { SteadySourcesStay }
+    ensures words { SteadyWordsStay }
 {}

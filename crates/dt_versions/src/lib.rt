@@ -2,12 +2,14 @@
 //! may see. A moment says how many writes have happened, in the order of their keys.
 #![tactic(auto)]
 
+mod chains;
 mod laws;
 mod moments;
 mod reads;
 #[cfg(test)]
 mod tests;
 mod views;
+mod words;
 
-pub use laws::{later_writes_do_not_count, sources_rise, visible_is_interval};
+pub use laws::{later_writes_do_not_count, sources_rise, steady_words_stay, visible_is_interval};
 pub use moments::{Moments, Span, WRITE_LIMIT};

@@ -1,4 +1,4 @@
-use crate::{Moments, Span};
+use crate::{Moments, Span, steady_words_stay};
 use dt_record::{Image, Key, RAM_END, RAM_START, Write};
 use std::alloc::{AllocError, Global};
 use std::process::Abort;
@@ -122,6 +122,32 @@ fn lines_are_touched_by_other_harts(rt: HostRuntime) -> Result<(), Fail> {
             moments.touched(line, from, to, but),
             touched,
             "{line:x} but hart {but}"
+        );
+    }
+    Ok(())
+}
+
+#[test]
+fn words_stay_until_they_change(rt: HostRuntime) -> Result<(), Fail> {
+    steady_words_stay();
+    let moments = made(&rt, rt.alloc())?;
+    for (k, addr, from, next, value) in [
+        (0, 0x8000_0000, 0, Some(1), 0x2211),
+        (1, 0x8000_0007, 1, Some(2), 0x2207),
+        (2, 0x8000_0003, 2, None, 0x0808),
+        (3, 0x8000_0000, 2, None, 0x0808),
+        (3, 0x8000_0008, 0, None, 0),
+        (0, 0x8000_0044, 0, Some(3), 0),
+        (3, 0x8000_0040, 3, None, 9),
+    ] {
+        assert!(rt; k <= moments.count());
+        assert!(rt; RAM_START <= addr && addr < RAM_END);
+        assert_eq!(rt; moments.steady_from(k, addr), from, "moment {k}, {addr:x}");
+        assert_eq!(rt; moments.next_change(k, addr), next, "moment {k}, {addr:x}");
+        assert_eq!(rt;
+            moments.word(k, addr - addr % 8),
+            value,
+            "moment {k}, {addr:x}"
         );
     }
     Ok(())

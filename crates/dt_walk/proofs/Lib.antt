@@ -1,2 +1,4 @@
+pub mod ByLeaf
 pub mod Dependence
+pub mod LeafSteps
 pub mod Steps

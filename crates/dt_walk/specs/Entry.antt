@@ -101,3 +101,17 @@ is_faulty_pointer level pte = level == 0 || is_accessed pte || is_dirty pte || i
 abbrev pub is_faulty : WalkArgs → ℕ → ℕ → Bool
 is_faulty a level pte =
     not (is_valid_entry pte) || (if is_leaf pte then is_faulty_leaf a level pte else is_faulty_pointer level pte)
+
+-- the entry, at this level, gives a page fault to whoever asks: it is invalid, a misaligned leaf, or a
+-- faulty pointer
+abbrev pub is_broken : ℕ → ℕ → Bool
+is_broken level pte =
+    not (is_valid_entry pte) || (if is_leaf pte then not (is_aligned level pte) else is_faulty_pointer level pte)
+
+-- bits 7 to 0 of a leaf: its marks and rights
+abbrev pub leaf_bits : ℕ → ℕ
+leaf_bits pte = pte % 2 ^ 8
+
+-- a leaf with these bits gives an access its page: it is marked, and allows the access and the mode
+abbrev pub permits : WalkArgs → ℕ → Bool
+permits a bits = is_marked a.access bits && (permits_access a.access a.mxr bits && permits_mode a bits)

@@ -1,3 +1,4 @@
 pub mod Entry
+pub mod Leaf
 pub mod Walk
 pub mod Worked

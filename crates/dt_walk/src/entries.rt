@@ -64,21 +64,21 @@ pub fn is_leaf(pte: u64) -> bool
     has_bit(pte, READ) || has_bit(pte, EXECUTE)
 }
 
-fn is_valid_entry(pte: u64) -> bool
+pub fn is_valid_entry(pte: u64) -> bool
     ensures { result ≡ is_valid_entry pte }
 {
     let has_lawful_rights = has_bit(pte, READ) || !has_bit(pte, WRITE);
     has_bit(pte, VALID) && has_lawful_rights && pte >> RESERVED == 0
 }
 
-fn is_aligned(level: u8, pte: u64) -> bool
+pub fn is_aligned(level: u8, pte: u64) -> bool
     requires { level < 4 }
     ensures { result ≡ is_aligned level pte }
 {
     page_number(pte) % (1 << (9 * level)) == 0
 }
 
-fn is_marked(access: Access, pte: u64) -> bool
+pub fn is_marked(access: Access, pte: u64) -> bool
     ensures { result ≡ is_marked access pte }
 {
     match access {
@@ -87,7 +87,7 @@ fn is_marked(access: Access, pte: u64) -> bool
     }
 }
 
-fn permits_access(access: Access, mxr: bool, pte: u64) -> bool
+pub fn permits_access(access: Access, mxr: bool, pte: u64) -> bool
     ensures { result ≡ permits_access access mxr pte }
 {
     match access {
@@ -97,7 +97,7 @@ fn permits_access(access: Access, mxr: bool, pte: u64) -> bool
     }
 }
 
-fn permits_mode(args: &WalkArgs, pte: u64) -> bool
+pub fn permits_mode(args: &WalkArgs, pte: u64) -> bool
     ensures { result ≡ permits_mode args.now pte }
 {
     if has_bit(pte, USER) {
@@ -117,7 +117,7 @@ fn is_faulty_leaf(args: &WalkArgs, level: u8, pte: u64) -> bool
         || !permits_mode(args, pte)
 }
 
-fn is_faulty_pointer(level: u8, pte: u64) -> bool
+pub fn is_faulty_pointer(level: u8, pte: u64) -> bool
     ensures { result ≡ is_faulty_pointer level pte }
 {
     level == 0 || has_bit(pte, ACCESSED) || has_bit(pte, DIRTY) || has_bit(pte, USER)

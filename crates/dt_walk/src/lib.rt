@@ -4,9 +4,13 @@
 
 mod arguments;
 mod entries;
+mod leaves;
+mod reads;
 #[cfg(test)]
 mod tests;
 mod walks;
 
 pub use arguments::{Access, WalkAnswer, WalkArgs};
+pub use leaves::{LeafAnswer, Tables, entry_place, find_leaf, leaf_decides, permits};
+pub use reads::{Reads, walk_reads};
 pub use walks::{PteReader, reads_decide, walk};

@@ -1,7 +1,9 @@
 ghost use Rattle.std.specs.Prelude.{◌≡◌, ◌==◌, find};
+ghost use Rattle.dt_walk.specs.Leaf.{CanFind};
 ghost use Rattle.dt_walk.specs.Walk.{CanWalk};
 
 use crate::arguments::{Access, WalkAnswer, WalkArgs};
+use crate::leaves::{LeafAnswer, Tables, find_leaf};
 use crate::walks::{PteReader, walk};
 use WalkAnswer::{AccessFault, Page, PageFault};
 
@@ -41,6 +43,16 @@ fn args(va: u64, wide: bool, access: Access) -> WalkArgs
         mode: 1,
         sum: false,
         mxr: false,
+    }
+}
+
+/// The tables that these walks go through.
+fn tables(wide: bool) -> Tables
+    ensures { CanFind result }
+{
+    Tables {
+        root: 0x8000_2000,
+        levels: if wide { 4 } else { 3 },
     }
 }
 
@@ -84,6 +96,12 @@ fn pages_of_each_size(rt: HostRuntime) {
         };
         let answer = walk(&entries, args(va, is_wide, Access::Load));
         assert_eq!(rt; answer, Page(address), "at {va:x}");
+        let found = find_leaf(&entries, tables(is_wide), va / 4096);
+        let page = LeafAnswer::Leaf {
+            page: address / 4096,
+            bits: 0xcf,
+        };
+        assert_eq!(rt; found, page, "at {va:x}");
     }
 }
 

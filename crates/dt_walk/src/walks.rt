@@ -12,10 +12,10 @@ const RAM_START: u64 = 0x8000_0000;
 const RAM_END: u64 = 0x8400_0000;
 
 /// The bytes of an entry.
-const ENTRY_SIZE: u64 = 8;
+pub const ENTRY_SIZE: u64 = 8;
 
 /// The entries of a table.
-const ENTRIES: u64 = 512;
+pub const ENTRIES: u64 = 512;
 
 /// Gives the page-table entries of one moment of memory.
 pub trait PteReader {
@@ -30,7 +30,7 @@ pub trait PteReader {
         ensures { result ≡ entry self.now addr };
 }
 
-fn is_canonical(levels: u8, va: u64) -> bool
+pub fn is_canonical(levels: u8, va: u64) -> bool
     requires low { 3 ≤ levels }
     requires high { levels ≤ 4 }
     ensures { result ≡ is_canonical levels va }
@@ -40,7 +40,7 @@ fn is_canonical(levels: u8, va: u64) -> bool
     high == 0 || high == u64::MAX >> untranslated
 }
 
-fn entry_address(va: u64, level: u8, table: u64) -> u64
+pub fn entry_address(va: u64, level: u8, table: u64) -> u64
     requires level { level < 4 }
     requires table { table % 4096 ≡ 0 }
     ensures address { result ≡ entry_address va level table }
@@ -49,7 +49,7 @@ fn entry_address(va: u64, level: u8, table: u64) -> u64
     table + ENTRY_SIZE * ((va >> (12 + 9 * level)) % ENTRIES)
 }
 
-fn is_in_ram(addr: u64) -> bool
+pub fn is_in_ram(addr: u64) -> bool
     ensures { result ≡ is_in_ram addr }
 {
     RAM_START <= addr && addr < RAM_END

@@ -1,4 +1,4 @@
-use Rattle.std.proofs.Common.{ℕ, ◌≡◌, ◌<◌, ◌≤◌, false}
+use Rattle.std.proofs.Common.{ℕ, ◌≡◌, ◌+◌, ◌-◌, ◌<◌, ◌≤◌, false}
 use Rattle.dt_sources.specs.Tries.{are_fit}
 use Rattle.dt_sources.proofs.finding.least_fit.Given as goal
 
@@ -6,6 +6,8 @@ use Rattle.dt_sources.proofs.finding.least_fit.Given as goal
 abbrev pub invariant-loop-k : goal.invariant-loop-k
 invariant-loop-k l = record {
   begun : l.fn.span.first ≤ l.k;
-  same_end : l.k-end ≡ l.fn.span.last;
   none : (j : ℕ) → l.fn.span.first ≤ j → j < l.k → are_fit l.m j l.addr l.raw l.bytes ≡ false;
 }
+
+abbrev pub decreases-loop-k : goal.decreases-loop-k
+decreases-loop-k l = l.span.last + 1 - l.k

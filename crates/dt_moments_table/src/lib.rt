@@ -1,0 +1,13 @@
+//! A table test of `dt_versions` and `dt_translate`, in a crate of its own since tests are proved
+//! too: on random short lists of writes, what is found by halving and by stretches is compared with
+//! what plain searches through all writes and all moments find.
+#![tactic(auto)]
+
+#[cfg(test)]
+mod plain;
+#[cfg(test)]
+mod tests;
+#[cfg(test)]
+mod translations;
+#[cfg(test)]
+mod writes;

@@ -1,0 +1,8 @@
+use Rattle.std.proofs.Common.{rules}
+use Rattle.std.proofs.lemmas.List.Sorted.{IsPartitionPoint-from_clause}
+use Rattle.dt_versions.specs.Cycles.{is_up_to_before}
+use Rattle.dt_versions.proofs.views.before_own_len.Goals as goal
+
+pub returns-clause-parts : goal.returns-clause-parts
+returns-clause-parts c =
+    IsPartitionPoint-from_clause (is_up_to_before c.args.key) c.args.writes.now c.partition_point.result c.partition_point.ensures.partitioned c.requires (λ a r f k. search rules)
