@@ -7,13 +7,14 @@ use Rattle.std.specs.declared.alloc.AllocError.{AllocError}
 use Rattle.std.proofs.lemmas.List.{append-nil, get_or-replicate, length-replicate}
 use Rattle.std.proofs.lemmas.Option.{slice_get-get_or}
 use Rattle.dt_record.specs.declared.accesses.LoadAsk.{LoadAsk}
+use Rattle.dt_record.specs.declared.accesses.OwnStore.{OwnStore}
 use Rattle.dt_record.specs.declared.keys.Key.{Key}
 use Rattle.dt_record.specs.declared.origins.Sources.{Sources}
 use Rattle.dt_record.specs.declared.records.Body.{Body}
 use Rattle.dt_record.specs.declared.records.Body.TheVariants.{Load, Atomic, Drain}
 use Rattle.dt_record.specs.declared.records.Retire.{Retire}
 use Rattle.dt_record.specs.declared.writes.Write.{Write}
-use Rattle.dt_record.specs.Actions.{Action, Drained, Fenced, Loaded, Atomic as Accessed, last_read}
+use Rattle.dt_record.specs.Actions.{Action, Stored, Drained, Fenced, Loaded, Atomic as Accessed, last_read}
 use Rattle.dt_record.specs.Lawful.{is_in_ram}
 use Rattle.dt_record.specs.Writes.{body_write}
 use Rattle.dt_local.specs.LocalMemory.{local_memory, newest_of, is_noted, noted_key, greater}
@@ -23,12 +24,13 @@ use Rattle.dt_sources.specs.Knowing.{covering_key}
 use Rattle.dt_stores.specs.declared.answers.DrainAnswer.{DrainAnswer}
 use Rattle.dt_stores.specs.declared.answers.DrainAnswer.TheVariants as answer
 use Rattle.dt_stores.specs.Draining.{drain_answer, OnRefused, OnTook, UnlessOutOfMemory}
+use Rattle.dt_stores.specs.GoingOn.{DrainsStayBelow}
 use Rattle.dt_stores.specs.Kept.{Kept}
 use Rattle.dt_stores.specs.Standing.{StandsFor as Keeps, GainsAction}
 use Rattle.dt_hart.specs.declared.accesses.Accesses.{Accesses}
 use Rattle.dt_hart.specs.Counting.{CountsOn}
 use Rattle.dt_hart.specs.Following.{Follows, floor_asked, noted_by, read_by, read_key}
-use Rattle.dt_hart.proofs.Counted.{counts_gained, counts_same}
+use Rattle.dt_hart.proofs.Counted.{below_next, counts_gained, counts_same}
 use Rattle.dt_hart.proofs.ReadKeys.{greater-none}
 
 -- What records leave of the accesses.
@@ -47,12 +49,17 @@ drain_gains (answer.Barred seq) old new key line count memory answers took actio
 drain_gains answer.OutOfMemory old new key line count memory answers took actions taken bytes keeps is = absurd (memory refl)
 
 -- and whatever it answers, no more fences are counted
-pub drain_counts : (result : DrainAnswer) (old new : Kept) (key : Key) (line count : ℕ) → OnTook result (GainsAction old new (Drained key line count))
-    → OnRefused result (new ≡ old) → CountsOn old new
-drain_counts (answer.Took mask found) old new key line count took refused = counts_gained old new (Drained key line count) took
-drain_counts (answer.Few held) old new key line count took refused = counts_same old new refused
-drain_counts (answer.Barred seq) old new key line count took refused = counts_same old new refused
-drain_counts answer.OutOfMemory old new key line count took refused = counts_same old new refused
+pub drain_counts : DrainsStayBelow → (result : DrainAnswer) (old new : Kept) (key : Key) (line count : ℕ) → OnTook result (GainsAction old new (Drained key line count))
+    → OnRefused result (new ≡ old) → CountsOn key old new
+drain_counts stay (answer.Took mask found) old new key line count took refused = counts_gained stay key old new (Drained key line count) (below_next key) took
+drain_counts stay (answer.Few held) old new key line count took refused = counts_same key old new refused
+drain_counts stay (answer.Barred seq) old new key line count took refused = counts_same key old new refused
+drain_counts stay answer.OutOfMemory old new key line count took refused = counts_same key old new refused
+
+-- a store is no drain
+pub store_counts : DrainsStayBelow → (result : Result (Unit {0}) AllocError) (old new : Kept) (key : Key) (store : OwnStore) → OnOk result (GainsAction old new (Stored store)) → OnOk result (CountsOn key old new)
+store_counts stay (Ok done) old new key store gains = counts_gained stay key old new (Stored store) tt gains
+store_counts stay (Err memory) old new key store gains = tt
 
 -- a note of one key gives it to each byte of the mask
 pub noted_same : (line mask : ℕ) (key : Key) (byte : ℕ) → noted_key line mask (replicate 64 key) byte ≡ (if is_noted line mask byte then Some key else None)

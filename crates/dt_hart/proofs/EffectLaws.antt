@@ -125,9 +125,9 @@ page_accesses accesses a seq r sources plan is other =
     let commit = ordering_commits a (key_of seq r) r.body plan is in
     rest_follows accesses (key_of seq r) r.body sources (is_page_fence a (key_of seq r) r.body plan is other).action commit.write (commit.read sources)
 
-pub page_fences : {A E : Type 0} (result : Result A E) (old new : WindowsView) (a : Arch) (seq first : ℕ) (r : Record) (plan : Planned) → ordering_in a r.body ≡ Some plan
-    → ((ww wr rr : Bool) → plan ≡ Fences ww wr rr → ⊥) → OnOk result (TakesFence old new plan first) → OnOk result (FollowsFences old new a seq r first)
-page_fences (Ok done) old new a seq first r plan is other takes = λ writes fences is_first keeps.
+pub page_fences : {A E : Type 0} (result : Result A E) (old new : WindowsView) (a : Arch) (seq : ℕ) (r : Record) (plan : Planned) → ordering_in a r.body ≡ Some plan
+    → ((ww wr rr : Bool) → plan ≡ Fences ww wr rr → ⊥) → OnOk result (TakesFence old new plan (key_of seq r)) → OnOk result (FollowsFences old new a seq r)
+page_fences (Ok done) old new a seq r plan is other takes = λ fences below keeps.
     let planned = (is_page_fence a (key_of seq r) r.body plan is other).planned in
-    rw planned (takes writes fences (key_of seq r) (rw planned at is_first) keeps)
-page_fences (Err refused) old new a seq first r plan is other takes = tt
+    rw planned (takes fences below keeps)
+page_fences (Err refused) old new a seq r plan is other takes = tt

@@ -62,12 +62,12 @@ next_after s r moment =
     let with_stamp : ℕ → ℕ → Key = λ stamp seq. record { stamp = stamp; hart = s.hart; seq = seq } in
     ap (λ stamp. with_stamp stamp (length (s.before ++ r ∷ []))) (stamp_from-snoc 0 s.before r) ∙ ap (with_stamp r.stamp) long
 
-pub goes_on : Laws → (a b : Arch) (seq stamp : ℕ) (old new : Accesses) (reserved leaves : Option (ℕ × Key)) (windows next : WindowsView) (r : Record) (sources : Sources) (first : ℕ)
+pub goes_on : Laws → (a b : Arch) (seq stamp : ℕ) (old new : Accesses) (reserved leaves : Option (ℕ × Key)) (windows next : WindowsView) (r : Record) (sources : Sources)
     → IsTrue (is_placed (action_of seq r)) → b ≡ after_record a r → Follows old new (key_of seq r) r.body sources → leaves ≡ reserved_by (key_of seq r) r.body reserved
-    → FollowsFences windows next a seq r first
-    → (s : Setting) (moment : ℕ) → StandsFor (kept a seq stamp old reserved windows) s → GoesOn s r → WasJudged s r moment sources first
+    → FollowsFences windows next a seq r
+    → (s : Setting) (moment : ℕ) → StandsFor (kept a seq stamp old reserved windows) s → GoesOn s r → WasJudged s r moment sources
     → StandsFor (kept b (seq + 1) r.stamp new leaves next) (after s r moment)
-goes_on laws a b seq stamp old new reserved leaves windows next r sources first placed state follow reserves fences s moment stands g known =
+goes_on laws a b seq stamp old new reserved leaves windows next r sources placed state follow reserves fences s moment stands g known =
     let kind : Kind (key_in s r) r.body = kind_of (key_in s r) r.body in
     let h : HartView = kept a seq stamp old reserved windows in
     let follows : Follows old new (key_in s r) r.body sources = subst (λ n. Follows old new (key_of n r) r.body sources) stands.seq follow in
@@ -96,5 +96,5 @@ goes_on laws a b seq stamp old new reserved leaves windows next r sources first 
       last_read = follows.last_read ∙ ap (λ n. max n (last_read (option_to_list (does s r)))) stands.last_read
           ∙ sym (ap last_read acts ∙ last_read_after (did s) (does s r));
       reserved = reserves ∙ ap (λ n. reserved_by (key_of n r) r.body reserved) stands.seq ∙ ap (reserved_by (key_in s r) r.body) stands.reserved ∙ sym (reserved_after s r);
-      windows = windows_after s r moment a seq first windows next stands.arch stands.seq fences known.is_first stands.windows;
+      windows = windows_after s r moment a seq windows next stands.arch stands.seq g fences stands.windows;
     }

@@ -1,15 +1,22 @@
 use Rattle.std.specs.Prelude.{ℕ, ◌+◌, ◌≤◌, List, length}
+use Rattle.dt_record.specs.declared.keys.Key.{Key}
 use Rattle.dt_record.specs.Actions.{Action}
+use Rattle.dt_stores.specs.GoingOn.{AreDrainedBelow}
 use Rattle.dt_stores.specs.Kept.{Kept}
 use Rattle.dt_stores.specs.Standing.{StandsFor}
 
--- A store buffer stands for some actions, no more than its hart had records, so it counted no more fences than these
--- (this project's own).
-pub record IsCounted (stores : Kept) (seq : ℕ) : Type 0 where
+-- A store buffer stands for some actions, no more than its hart had records, so it counted no more fences than these;
+-- and the drains among them have keys below one that the hart's next record may have (this project's own).
+pub record IsCounted (stores : Kept) (next : Key) : Type 0 where
   pub actions : List Action
   pub stands : StandsFor stores actions
-  pub few : length actions ≤ seq
+  pub few : length actions ≤ next.seq
+  pub below : AreDrainedBelow next stores.held
 
--- it goes on so by one more record
-abbrev pub CountsOn : Kept → Kept → Type 0
-CountsOn old new = (seq : ℕ) → IsCounted old seq → IsCounted new (seq + 1)
+-- the least key of the record after the one with this key
+abbrev pub key_after : Key → Key
+key_after key = record key { seq = key.seq + 1 }
+
+-- it goes on so by the record with this key
+abbrev pub CountsOn : Key → Kept → Kept → Type 0
+CountsOn key old new = IsCounted old key → IsCounted new (key_after key)

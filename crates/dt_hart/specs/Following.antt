@@ -1,4 +1,5 @@
-use Rattle.std.specs.Prelude.{ℕ, ◌≡◌, ◌-◌, max, if◌then◌else◌, Option, Some, None, List, ◌++◌, take, option_to_list, nat_le, slice_get, IfSome}
+use Rattle.std.specs.Prelude.{ℕ, ◌≡◌, ◌-◌, max, if◌then◌else◌, Option, Some, None, List, ◌++◌, take, option_to_list, nat_le, slice_get, IsTrue}
+use Rattle.std.specs.List.{list_all}
 use Rattle.std.specs.Option.{option_map_or}
 use Rattle.dt_record.specs.declared.keys.Key.{Key}
 use Rattle.dt_record.specs.declared.origins.Origin.{Origin}
@@ -6,9 +7,8 @@ use Rattle.dt_record.specs.declared.origins.Sources.{Sources}
 use Rattle.dt_record.specs.declared.records.Body.{Body}
 use Rattle.dt_record.specs.declared.records.Body.TheVariants.{Load, Atomic}
 use Rattle.dt_record.specs.declared.records.Record.{Record}
-use Rattle.dt_record.specs.declared.writes.Write.{Write}
 use Rattle.dt_record.specs.Actions.{Action, Fenced, Atomic as Accessed, last_read}
-use Rattle.dt_record.specs.Keys.{key_of}
+use Rattle.dt_record.specs.Keys.{key_below, key_of}
 use Rattle.dt_record.specs.Lawful.{is_in_ram}
 use Rattle.dt_record.specs.Writes.{body_write}
 use Rattle.dt_local.specs.LocalMemory.{newest_of, greater}
@@ -17,11 +17,10 @@ use Rattle.dt_reference.specs.Meaning.{meaning_of}
 use Rattle.dt_sources.specs.Knowing.{write_key, covering_key}
 use Rattle.dt_step.specs.declared.state.Arch.{Arch}
 use Rattle.dt_stores.specs.Standing.{StandsFor as Keeps}
-use Rattle.dt_versions.specs.Spans.{first_visible}
 use Rattle.dt_windows.specs.Fences.{Fence}
 use Rattle.dt_windows.specs.Kept.{WindowsView, StandsFor as KeepsFences}
 use Rattle.dt_hart.specs.declared.accesses.Accesses.{Accesses}
-use Rattle.dt_hart.specs.Fences.{fence_in, fence_by}
+use Rattle.dt_hart.specs.Fences.{fence_by}
 use Rattle.dt_hart.specs.Taking.{IsDrained}
 
 -- What a record leaves of a hart's memory accesses and fences (this project's own).
@@ -63,9 +62,8 @@ pub record IsKept (old new : Accesses) : Type 0 where
   pub floor : new.floor ≡ old.floor
   pub last_read : new.last_read ≡ old.last_read
 
--- The fences go on by a record: whatever fences the old value stands for, the new one stands for them and the record's,
--- where this is the least moment that the hart may see there.
-abbrev pub FollowsFences : WindowsView → WindowsView → Arch → (seq : ℕ) → Record → (first : ℕ) → Type 0
-FollowsFences old new a seq r first = (writes : List Write) (fences : List Fence)
-    → IfSome (fence_in a r.body) (λ plan. first ≡ first_visible writes (key_of seq r) r.stamp)
-    → KeepsFences old writes fences → KeepsFences new writes (fences ++ option_to_list (fence_by a seq r))
+-- The fences go on by a record: whatever fences the old value stands for, where these stand before the record, the new one
+-- stands for them and the record's.
+abbrev pub FollowsFences : WindowsView → WindowsView → Arch → (seq : ℕ) → Record → Type 0
+FollowsFences old new a seq r = (fences : List Fence) → IsTrue (list_all (λ f. key_below f.key (key_of seq r)) fences)
+    → KeepsFences old fences → KeepsFences new (fences ++ option_to_list (fence_by a seq r))

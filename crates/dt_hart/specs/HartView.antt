@@ -6,8 +6,8 @@ use Rattle.dt_windows.specs.Kept.{WindowsView}
 
 -- What is kept of a hart (this project's own): its state, how many of its records there were and the stamp of the last
 -- of them, 0 before the first; its store buffer; the newest key that it knows for each byte; the cycle that its next load
--- may not be below, and the greatest cycle in which it read memory; the line and the LR's key of its reservation; and the
--- moments from which it may translate and fetch.
+-- may not be below, and the greatest cycle in which it read memory; the line and the LR's key of its reservation; and its
+-- last fences of pages and of instructions.
 pub record HartView : Type 0 where
   pub arch : Arch
   pub seq : ℕ

@@ -1,7 +1,9 @@
-use Rattle.std.specs.Prelude.{◌≡◌, None, length}
+use Rattle.std.specs.Prelude.{◌≡◌, None, length, IsTrue}
+use Rattle.std.specs.List.{list_all}
 use Rattle.dt_record.specs.declared.keys.Key.{Key}
 use Rattle.dt_record.specs.declared.records.Record.{Record}
 use Rattle.dt_record.specs.Actions.{order_floor, last_read}
+use Rattle.dt_record.specs.Keys.{key_below}
 use Rattle.dt_local.specs.LocalMemory.{local_memory}
 use Rattle.dt_sources.specs.Choice.{ChoosesLeast}
 use Rattle.dt_sources.specs.Knowing.{Knows, AreJudged}
@@ -26,7 +28,7 @@ pub record StandsFor (h : HartView) (s : Setting) : Type 0 where
   pub floor : h.floor ≡ order_floor (did s)
   pub last_read : h.last_read ≡ last_read (did s)
   pub reserved : h.reserved ≡ reserved_in s.before
-  pub windows : KeepsFences h.windows s.writes (fences_of s)
+  pub windows : KeepsFences h.windows (fences_of s)
 
 -- what local memory and the store buffer know at a next record
 pub record KnowsAt (h : HartView) (s : Setting) (next : Key) : Type 0 where
@@ -37,3 +39,7 @@ pub record KnowsAt (h : HartView) (s : Setting) (next : Key) : Type 0 where
 -- between the least key that this may have and its own.
 abbrev pub KnowsAtNext : Type 0
 KnowsAtNext = (h : HartView) (s : Setting) (r : Record) → StandsFor h s → GoesOn s r → KnowsAt h s (key_in s r)
+
+-- A law: the fences of a hart's records stand before its next record.
+abbrev pub FencesAreEarlier : Type 0
+FencesAreEarlier = (s : Setting) (r : Record) → GoesOn s r → IsTrue (list_all (λ f. key_below f.key (key_in s r)) (fences_of s))

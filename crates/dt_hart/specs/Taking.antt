@@ -1,4 +1,4 @@
-use Rattle.std.specs.Prelude.{ℕ, ◌≡◌, ◌+◌, ◌<◌, ◌≤◌, ◌%◌, ◌==◌, ◌&&◌, ◌||◌, Bool, true, false, not, Option, Some, List, slice_get, IsTrue, IfSome}
+use Rattle.std.specs.Prelude.{ℕ, ◌≡◌, ◌+◌, ◌<◌, ◌≤◌, ◌%◌, ◌==◌, ◌&&◌, ◌||◌, Bool, true, false, not, Option, Some, List, slice_get, IsTrue}
 use Rattle.dt_record.specs.declared.accesses.LoadAsk.{LoadAsk}
 use Rattle.dt_record.specs.declared.keys.Key.{Key}
 use Rattle.dt_record.specs.declared.origins.Sources.{Sources}
@@ -17,9 +17,7 @@ use Rattle.dt_sources.specs.Finding.{AreSourcesAt, is_load_place}
 use Rattle.dt_stores.specs.declared.answers.DrainAnswer.TheVariants.{Took}
 use Rattle.dt_stores.specs.Draining.{drain_answer}
 use Rattle.dt_stores.specs.Places.{is_store_place, is_store_width}
-use Rattle.dt_versions.specs.Spans.{first_visible}
-use Rattle.dt_hart.specs.Fences.{fence_in}
-use Rattle.dt_hart.specs.Settings.{Setting, arch_of, did, does, key_in}
+use Rattle.dt_hart.specs.Settings.{Setting, did, does}
 
 -- What is known of a record that is allowed (this project's own).
 
@@ -67,13 +65,8 @@ abbrev pub IsDrained : List Action → Body → Type 0
 IsDrained actions (Drain line mask count bytes) = drain_answer actions line count ≡ Took mask bytes
 IsDrained actions body = Unit {0}
 
--- where a record fences pages or instructions, this is the least moment that the hart may see there
-abbrev pub IsFirstSeen : Setting → Record → (first : ℕ) → Type 0
-IsFirstSeen s r first = IfSome (fence_in (arch_of s) r.body) (λ plan. first ≡ first_visible s.writes (key_in s r) r.stamp)
-
--- What was found when the record was judged: the moment at which a load from RAM read, where the bytes of a load, an LR or
--- an AMO come from, and the least moment that the hart may see at a fence.
-pub record WasJudged (s : Setting) (r : Record) (moment : ℕ) (sources : Sources) (first : ℕ) : Type 0 where
+-- What was found when the record was judged: the moment at which a load from RAM read, and where the bytes of a load, an LR
+-- or an AMO come from.
+pub record WasJudged (s : Setting) (r : Record) (moment : ℕ) (sources : Sources) : Type 0 where
   pub is_read : IsRead s (does s r) moment sources
   pub is_drained : IsDrained (did s) r.body
-  pub is_first : IsFirstSeen s r first

@@ -8,6 +8,7 @@ ghost use Rattle.dt_reference.specs.HartActions.{action_of};
 ghost use Rattle.dt_sources.specs.Knowing.{covering_key};
 ghost use Rattle.dt_stores.specs.declared.answers.DrainAnswer.TheVariants as answer;
 ghost use Rattle.dt_stores.specs.Draining.{drain_answer};
+ghost use Rattle.dt_stores.specs.GoingOn.{AreDrainedBelow};
 ghost use Rattle.dt_stores.specs.Standing.{GainsAction, StandsFor as Keeps};
 ghost use Rattle.dt_hart.specs.Counting.{CountsOn};
 ghost use Rattle.dt_hart.specs.Following.{Follows, IsKept, read_key};
@@ -18,7 +19,7 @@ use crate::notes::{note_atomic, note_read};
 use crate::places::{is_in_ram, width_of};
 use dt_local::Local;
 use dt_record::{Body, Key, OwnStore, Record, Sources, Write, write_of};
-use dt_stores::{DrainAnswer, Stores, atomics_keep_stores, loads_keep_stores};
+use dt_stores::{DrainAnswer, Stores, atomics_keep_stores, drains_stay_below, loads_keep_stores};
 use std::alloc::AllocError;
 
 /// What a hart's memory accesses leave, as later ones ask for it.
@@ -39,12 +40,14 @@ impl Accesses {
         requires lawful { IsLawful event.now }
         requires no_fence { IsFalse (is_fenced (action_of seq event.now)) }
         requires placed { IsTrue (is_placed (action_of seq event.now)) }
+        requires below { AreDrainedBelow (key_of seq event.now) self.old.stores.held }
         ensures follows { OnOk result (Follows self.old self.new (key_of seq event.now) event.now.body sources) }
-        ensures counted { OnOk result (CountsOn self.old.stores self.new.stores) }
+        ensures counted { OnOk result (CountsOn (key_of seq event.now) self.old.stores self.new.stores) }
         ensures unchanged { OnErr result (IsKept self.old self.new) }
     {
         loads_keep_stores();
         atomics_keep_stores();
+        drains_stay_below();
         let stamp = event.stamp;
         let hart = event.hart;
         let key = Key { stamp, hart, seq };
@@ -144,13 +147,15 @@ impl Accesses {
     /// A drain notes its own key. One that is allowed takes its stores, so no other answer is asked.
     fn take_drain(&mut self, key: Key, line: u64, mask: u64, count: u16) -> Result<(), AllocError>
         requires line { IsTrue (is_ram_line line) }
+        requires below { AreDrainedBelow key self.old.stores.held }
         ensures stores { OnOk result ((actions : List Action) (taken : ℕ) (bytes : List ℕ) → Keeps self.old.stores actions → drain_answer actions line count ≡ answer.Took taken bytes → Keeps self.new.stores (actions ++ Drained key line count ∷ [])) }
-        ensures counted { OnOk result (CountsOn self.old.stores self.new.stores) }
+        ensures counted { OnOk result (CountsOn key self.old.stores self.new.stores) }
         ensures noted { OnOk result ((byte : ℕ) → newest_of self.new.local byte ≡ greater (newest_of self.old.local byte) (if is_noted line mask byte then Some key else None)) }
         ensures floor { self.new.floor ≡ self.old.floor }
         ensures last_read { self.new.last_read ≡ self.old.last_read }
         ensures unchanged { OnErr result (IsKept self.old self.new) }
     {
+        drains_stay_below();
         self.local.reserve(line, mask)?;
         if let DrainAnswer::OutOfMemory = self.stores.drain(key, line, count) {
             return Err(AllocError);

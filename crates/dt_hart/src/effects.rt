@@ -3,21 +3,22 @@ ghost use Rattle.dt_record.specs.Keys.{key_of};
 ghost use Rattle.dt_record.specs.Lawful.{IsLawful};
 ghost use Rattle.dt_reference.specs.HartActions.{action_of};
 ghost use Rattle.dt_step.specs.State.{IsArch};
-ghost use Rattle.dt_hart.specs.Counting.{IsCounted};
+ghost use Rattle.dt_hart.specs.Counting.{IsCounted, key_after};
 ghost use Rattle.dt_hart.specs.Fences.{is_ordering, ordering_in};
 ghost use Rattle.dt_hart.specs.Following.{Follows, FollowsFences, IsKept};
 ghost use Rattle.dt_hart.specs.Taking.{is_placed};
 
 use crate::accesses::Accesses;
 use dt_decode::Instr;
-use dt_record::{Body, Record, Sources};
+use dt_record::{Body, Key, Record, Sources};
 use dt_reference::meaning;
 use dt_step::{Arch, Planned, plan};
+use dt_stores::drains_stay_below;
 use dt_windows::Windows;
 use std::alloc::AllocError;
 
 /// Takes what a hart's record with this number does to its accesses and its fences, in the state
-/// before it. `first` is the least moment that the hart may see at it.
+/// before it.
 pub fn take_effects(
     accesses: &mut Accesses,
     windows: &mut Windows,
@@ -25,19 +26,19 @@ pub fn take_effects(
     seq: u32,
     event: &Record,
     sources: Sources,
-    first: u32,
 ) -> Result<(), AllocError>
     requires arch { IsArch a.now }
     requires lawful { IsLawful event.now }
     requires placed { IsTrue (is_placed (action_of seq event.now)) }
-    requires counted { IsCounted accesses.old.stores seq }
+    requires counted { IsCounted accesses.old.stores (key_of seq event.now) }
     requires room { seq < 4194304 }
     ensures follows { OnOk result (Follows accesses.old accesses.new (key_of seq event.now) event.now.body sources) }
-    ensures fences { OnOk result (FollowsFences windows.old windows.new a.now seq event.now first) }
-    ensures counted { OnOk result (IsCounted accesses.new.stores (seq + 1)) }
+    ensures fences { OnOk result (FollowsFences windows.old windows.new a.now seq event.now) }
+    ensures counted { OnOk result (IsCounted accesses.new.stores (key_after (key_of seq event.now))) }
     ensures unchanged { OnErr result (IsKept accesses.old accesses.new) }
     ensures windows_unchanged { OnErr result (windows.new ≡ windows.old) }
 {
+    drains_stay_below();
     match ordering_plan(a, event) {
         None => accesses.take(seq, event, sources),
         Some(fence) => match fence {
@@ -45,7 +46,14 @@ pub fn take_effects(
                 accesses.take_fence(ww, wr, rr);
                 Ok(())
             }
-            _ => windows.take(fence, first),
+            _ => {
+                let key = Key {
+                    stamp: event.stamp,
+                    hart: event.hart,
+                    seq,
+                };
+                windows.take(fence, key)
+            }
         },
     }
 }

@@ -55,7 +55,7 @@ impl Model for Hart {
       windows = h.windows;
     } };
 
-    ghost invariant = { λ h. IsArch h.arch × IsReachable h.arch × IsCounted h.accesses.stores h.seq };
+    ghost invariant = { λ h. IsArch h.arch × IsReachable h.arch × IsCounted h.accesses.stores (record { stamp = h.stamp; hart = h.arch.hart; seq = h.seq }) };
 }
 
 impl Hart {
@@ -138,7 +138,7 @@ impl Hart {
         self.reserved
     }
 
-    /// From which moments the hart may translate and fetch.
+    /// The hart's last fences of pages and of instructions.
     pub fn windows(&self) -> &Windows
         ensures { result.now ≡ self.now.windows }
     {
@@ -146,17 +146,15 @@ impl Hart {
     }
 
     /// Takes the hart's next record, which is allowed. The sources are where the bytes of a load from
-    /// RAM, an LR or an AMO come from, and `first` is the least moment that the hart may see at it.
-    /// The sources of other records do not count, nor does the moment unless the record fences pages
-    /// or instructions.
-    pub fn take(&mut self, event: &Record, sources: Sources, first: u32) -> Result<(), AllocError>
+    /// RAM, an LR or an AMO come from, and do not count for other records.
+    pub fn take(&mut self, event: &Record, sources: Sources) -> Result<(), AllocError>
         requires lawful { IsLawful event.now }
         requires its { event.now.hart ≡ self.old.arch.hart }
         requires in_time { self.old.stamp ≤ event.now.stamp }
         requires room { self.old.seq < 4194304 }
         requires follows { CanFollow self.old.arch event.now.body }
         requires placed { IsTrue (is_placed (action_of self.old.seq event.now)) }
-        ensures goes_on { OnOk result ((s : Setting) (moment : ℕ) → StandsFor self.old s → GoesOn s event.now → WasJudged s event.now moment sources first → StandsFor self.new (after s event.now moment)) }
+        ensures goes_on { OnOk result ((s : Setting) (moment : ℕ) → StandsFor self.old s → GoesOn s event.now → WasJudged s event.now moment sources → StandsFor self.new (after s event.now moment)) }
         ensures arch { OnOk result (self.new.arch ≡ after_record self.old.arch event.now) }
         ensures number { self.new.arch.hart ≡ self.old.arch.hart }
         ensures counted { OnOk result (self.new.seq ≡ self.old.seq + 1) }
@@ -176,7 +174,6 @@ impl Hart {
             self.seq,
             event,
             sources,
-            first,
         )?;
         let key = Key {
             stamp: event.stamp,

@@ -1,5 +1,5 @@
 //! Laws of the definitions, for the crates above. The functions do nothing.
-ghost use Rattle.dt_hart.specs.Standing.{KnowsAtNext};
+ghost use Rattle.dt_hart.specs.Standing.{FencesAreEarlier, KnowsAtNext};
 
 use dt_judged::judged_goes_on;
 use dt_sources::knowing_goes_on;
@@ -11,3 +11,8 @@ pub fn known_at_next()
     knowing_goes_on();
     judged_goes_on();
 }
+
+/// The fences of a hart's records stand before its next record.
+pub fn fences_are_earlier()
+    ensures { FencesAreEarlier }
+{}

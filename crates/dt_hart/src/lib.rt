@@ -14,5 +14,5 @@ mod places;
 mod tests;
 
 pub use harts::Hart;
-pub use laws::known_at_next;
+pub use laws::{fences_are_earlier, known_at_next};
 pub use places::is_placed;

@@ -68,14 +68,13 @@ const NONE: Sources = Sources {
     from: [Origin::Image; 8],
 };
 
-/// Takes a record of the hart that may be next, where `first` is the least moment that it may see.
-fn take_at(
+/// Takes a record of the hart that may be next.
+fn take(
     rt: &impl Abort,
     hart: &mut Hart,
     stamp: u64,
     body: Body,
     sources: Sources,
-    first: u32,
 ) -> Result<(), Fail> {
     let event = Record {
         stamp,
@@ -86,18 +85,8 @@ fn take_at(
     assert!(rt; is_placed(&event));
     assert!(rt; hart.stamp() <= stamp && hart.seq() < 4_194_304);
     assert!(rt; can_follow(hart.arch(), &event));
-    hart.take(&event, sources, first)?;
+    hart.take(&event, sources)?;
     Ok(())
-}
-
-fn take(
-    rt: &impl Abort,
-    hart: &mut Hart,
-    stamp: u64,
-    body: Body,
-    sources: Sources,
-) -> Result<(), Fail> {
-    take_at(rt, hart, stamp, body, sources, 0)
 }
 
 #[test]
@@ -184,16 +173,21 @@ fn atomics_order_note_and_reserve(rt: HostRuntime) -> Result<(), Fail> {
 #[test]
 fn fences_begin_windows(rt: HostRuntime) -> Result<(), Fail> {
     let mut hart = Hart::new(rt.alloc(), 0, false);
-    for (first, bits, instructions, page, other) in [
+    let cycle = |fence: Option<Key>| fence.map_or(0, |k| k.stamp);
+    for (stamp, bits, instructions, page, other) in [
         (3, 0x0000_100f, 3, 0, 0),
         (4, 0x1202_8073, 3, 4, 0),
         (5, 0x1200_0073, 3, 5, 5),
         (6, 0x0330_000f, 3, 5, 5),
     ] {
         let body = commit(0x8000_0000, bits, 0);
-        take_at(&rt, &mut hart, u64::from(first), body, NONE, first)?;
+        take(&rt, &mut hart, stamp, body, NONE)?;
         let windows = hart.windows();
-        let kept = (windows.instructions(), windows.page(8), windows.page(4096));
+        let kept = (
+            cycle(windows.instructions()),
+            cycle(windows.page(8)),
+            cycle(windows.page(4096)),
+        );
         assert_eq!(rt; kept, (instructions, page, other), "{bits:x}");
     }
     Ok(())

@@ -30,7 +30,7 @@ use Rattle.dt_step.specs.declared.plans.Planned.TheVariants.{Done, NeedsLoad, Ne
 use Rattle.dt_traps.specs.Instructions.{atomic_access}
 use Rattle.dt_traps.specs.Laws.{SameTraps}
 use Rattle.dt_versions.specs.declared.moments.Span.{Span}
-use Rattle.dt_versions.specs.History.{History, history}
+use Rattle.dt_versions.specs.History.{History}
 use Rattle.dt_walk.specs.declared.arguments.Access.{Access}
 use Rattle.dt_walk.specs.declared.arguments.Access.TheVariants as access
 use Rattle.dt_judge.specs.declared.atomics.Said.{Said}
@@ -67,19 +67,19 @@ module _ (laws : CheckLaws) (h : HartView) (m : History) (later : List Write) (s
   few = grounds_kept h m last actions moments
 
   abbrev pub more : Grounds
-  more = grounds_kept h (history m.image (m.writes ++ later)) last actions moments
+  more = record few { writes = m.writes ++ later }
 
   begins : take last m.writes ≡ take last (m.writes ++ later)
   begins = sym (take-append-le last m.writes later within)
 
-  begin_alike : BeginAlike (fetch_kept h last) m.writes (m.writes ++ later)
+  begin_alike : BeginAlike (fetch_kept h m.writes last) m.writes (m.writes ++ later)
   begin_alike = record { first = begins; second = begins; since = begins }
 
   started_same : (pc bits tag : ℕ) → started few pc bits tag ≡ started more pc bits tag
-  started_same pc bits tag = laws.starts m.image m.writes (m.writes ++ later) (fetch_kept h last) h.arch pc bits tag begin_alike
+  started_same pc bits tag = laws.starts m.image m.writes (m.writes ++ later) (fetch_kept h m.writes last) h.arch pc bits tag begin_alike
 
   accessed_same : (a : Access) (ram_only : Bool) (va paddr : ℕ) → accessed few a ram_only va paddr ≡ accessed more a ram_only va paddr
-  accessed_same a ram_only va paddr = laws.addresses m.image m.writes (m.writes ++ later) (window_kept h last va) (walk_args h.arch a va) ram_only paddr begins
+  accessed_same a ram_only va paddr = laws.addresses m.image m.writes (m.writes ++ later) (window_kept h m.writes last va) (walk_args h.arch a va) ram_only paddr begins
 
   stored_same : (stale : Bool) (plan : Planned) (paddr value : ℕ) → stored few stale plan paddr value ≡ stored more stale plan paddr value
   stored_same stale (NeedsStore va width due) paddr value =

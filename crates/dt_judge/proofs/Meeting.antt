@@ -1,4 +1,4 @@
-use Rattle.std.proofs.Common.{ℕ, ◌≡◌, ◌+◌, ◌≤◌, ◌&&◌, true, Option, None, Some, List, ◌++◌, length, Result, IsTrue, refl, sym, ap, subst, ◌∙◌, arith}
+use Rattle.std.proofs.Common.{ℕ, ◌≡◌, ◌+◌, ◌≤◌, ◌&&◌, Bool, true, Option, None, Some, List, ◌++◌, length, Result, IsTrue, refl, sym, ap, subst, ◌∙◌, arith}
 use Rattle.std.specs.Prelude.{IfSome, nat_le}
 use Rattle.std.specs.List.{list_all}
 use Rattle.std.specs.Option.{option_to_list}
@@ -9,21 +9,27 @@ use Rattle.dt_record.specs.declared.origins.Sources.{Sources}
 use Rattle.dt_record.specs.declared.records.Record.{Record}
 use Rattle.dt_record.specs.declared.writes.Write.{Write}
 use Rattle.dt_record.specs.Actions.{Action, Stored, Drained, Fenced, Loaded, Atomic}
-use Rattle.dt_record.specs.Keys.{key_of}
+use Rattle.dt_record.specs.declared.keys.Key.{Key}
+use Rattle.dt_record.specs.Keys.{KeyBelow, key_of}
+use Rattle.dt_record.specs.KeyLaws.{KeyBelow-stamps}
 use Rattle.dt_record.specs.Lawful.{is_lawful}
 use Rattle.dt_record.specs.LoadSources.{origin_of_key}
-use Rattle.dt_hart.specs.Fences.{fence_in}
+use Rattle.dt_hart.specs.Fences.{fences_of}
 use Rattle.dt_hart.specs.HartView.{HartView}
 use Rattle.dt_hart.specs.OwnWrites.{GoesOn}
 use Rattle.dt_hart.specs.Settings.{Setting, arch_of, did, does, key_in}
-use Rattle.dt_hart.specs.Standing.{KnowsAt, KnowsAtNext, StandsFor}
-use Rattle.dt_hart.specs.Taking.{IsFirstSeen, IsRead, WasJudged}
+use Rattle.dt_hart.specs.Standing.{FencesAreEarlier, KnowsAt, KnowsAtNext, StandsFor}
+use Rattle.dt_hart.specs.Taking.{IsRead, WasJudged}
 use Rattle.dt_loads.specs.declared.reading.Passed.{Passed}
 use Rattle.dt_local.specs.LocalMemory.{local_memory}
 use Rattle.dt_rules.specs.declared.misfits.Misfit.{Misfit}
 use Rattle.dt_versions.specs.declared.moments.Span.{Span}
-use Rattle.dt_versions.specs.History.{History, history}
-use Rattle.dt_versions.specs.Spans.{first_visible, last_visible}
+use Rattle.dt_step.specs.declared.plans.Planned.{Planned}
+use Rattle.dt_versions.specs.History.{History}
+use Rattle.dt_versions.specs.Spans.{last_visible}
+use Rattle.dt_windows.specs.Fences.{covers_page, first_since, is_instruction_fence, last_fence}
+use Rattle.dt_windows.specs.Kept.{page_key}
+use Rattle.dt_windows.specs.Laws.{LastFencesAreBelow}
 use Rattle.dt_judge.specs.Grounds.{Grounds, grounds_of, window_of}
 use Rattle.dt_judge.specs.Judgement.{Finds, FindsBody}
 use Rattle.dt_judge.specs.Judging.{Meets}
@@ -54,16 +60,14 @@ FoundOf h m seq r sources =
     (actions : List Action) (moments : ℕ → ℕ) → Remembers h m.writes (key_of seq r) actions moments
     → WasFound m.image m.writes actions moments (key_of seq r) r.body sources
 
-if_some : {X : Type 0} (o : Option X) (P : X → Type 0) → ((x : X) → P x) → IfSome o P
-if_some None P holds = tt
-if_some (Some x) P holds = holds x
-
 is_at_most : {a b : ℕ} → IsTrue (nat_le a b) → a ≤ b
 is_at_most {a} {b} below = grind (arith, nat_tests)
 
 -- the laws that it rests on
 pub record Laws : Type 0 where
   pub known : KnowsAtNext
+  pub fences : FencesAreEarlier
+  pub last : LastFencesAreBelow
   pub checks : CheckLaws
 
 module _ (laws : Laws) (h : HartView) (m : History) (s : Setting) (r : Record) (meets : Meets h m s r) where
@@ -85,8 +89,16 @@ module _ (laws : Laws) (h : HartView) (m : History) (s : Setting) (r : Record) (
   abbrev end : ℕ
   end = (seen_by m.writes (key_in s r)).last
 
+  -- the least moment that the hart could see at an earlier fence is the same with the later writes
+  since_earlier : (fence : Option Key) → IfSome fence (λ f. KeyBelow f (key_in s r)) → first_since (m.writes ++ meets.later) fence ≡ first_since m.writes fence
+  since_earlier None below = refl
+  since_earlier (Some f) below = first_same m.writes meets.later r.stamp meets.after f f.stamp (KeyBelow-stamps f (key_in s r) below)
+
+  since_last : (test : Planned → Bool) → first_since (m.writes ++ meets.later) (last_fence test (fences_of s)) ≡ first_since m.writes (last_fence test (fences_of s))
+  since_last test = since_earlier (last_fence test (fences_of s)) (laws.last test (fences_of s) (key_in s r) (laws.fences s r meets.goes_on))
+
   -- the grounds are seen from what is kept
-  same_grounds : grounds_of there (key_in s r) ≡ grounds_kept h (history m.image (m.writes ++ meets.later)) end (did s) s.moments
+  same_grounds : grounds_of there (key_in s r) ≡ record (grounds_kept h m end (did s) s.moments) { writes = m.writes ++ meets.later }
   same_grounds = λ i. record {
     image = m.image;
     writes = m.writes ++ meets.later;
@@ -97,7 +109,7 @@ module _ (laws : Laws) (h : HartView) (m : History) (s : Setting) (r : Record) (
     fetch = record {
       first = window (arch i).pc i;
       second = window (sum_of 64 (arch i).pc 2) i;
-      since = record { first = sym stands_there.windows.instructions i; last = last i };
+      since = record { first = since i; last = last i };
     };
     window = λ va. window va i;
   }
@@ -108,8 +120,14 @@ module _ (laws : Laws) (h : HartView) (m : History) (s : Setting) (r : Record) (
       last : last_visible (m.writes ++ meets.later) (key_in s r) r.stamp ≡ end
       last = last_same m.writes meets.later r.stamp meets.after (key_in s r) r.stamp (omega arith)
 
-      window : (va : ℕ) → window_of there (key_in s r) va ≡ window_kept h end va
-      window va = λ i. record { first = sym (stands_there.windows.pages va) i; last = last i }
+      since : first_since (m.writes ++ meets.later) (last_fence is_instruction_fence (fences_of s)) ≡ first_since m.writes h.windows.instructions
+      since = since_last is_instruction_fence ∙ ap (first_since m.writes) (sym meets.stands.windows.instructions)
+
+      page : (va : ℕ) → first_since (m.writes ++ meets.later) (last_fence (covers_page va) (fences_of s)) ≡ first_since m.writes (page_key h.windows va)
+      page va = since_last (covers_page va) ∙ ap (first_since m.writes) (sym (meets.stands.windows.pages va))
+
+      window : (va : ℕ) → window_of there (key_in s r) va ≡ window_kept h m.writes end va
+      window va = λ i. record { first = page va i; last = last i }
 
   -- what is kept remembers what the hart did
   remembers : Remembers h m.writes (key_in s r) (did s) s.moments
@@ -148,20 +166,11 @@ module _ (laws : Laws) (h : HartView) (m : History) (s : Setting) (r : Record) (
       let parts = and_parts (nat_le key.stamp r.stamp) true seen in
       (0, λ is i within. read is i within ∙ ap (λ source. Some (origin_of_key source)) (sym (own_source_same m.writes meets.later r.stamp meets.after key (addr + i) (is_at_most parts.0))))
 
-  -- the least moment that the hart may see at the record
-  first_seen : IsFirstSeen there r (seen_by m.writes (key_in s r)).first
-  first_seen =
-      if_some (fence_in (arch_of s) r.body) (λ plan. (seen_by m.writes (key_in s r)).first ≡ first_visible (m.writes ++ meets.later) (key_in s r) r.stamp)
-      (λ plan. sym (first_same m.writes meets.later r.stamp meets.after (key_in s r) r.stamp (omega arith)))
-
   -- the record was judged, at some moment
-  pub was_judged : (seq : ℕ) (seen : Span) (sources : Sources) → IsTrue (is_lawful r) → seq ≡ h.seq → seen ≡ seen_by m.writes (key_of seq r) → FoundOf h m seq r sources
-      → (moment : ℕ) × WasJudged s r moment sources seen.first
-  was_judged seq seen sources lawful is saw found =
+  pub was_judged : (seq : ℕ) (sources : Sources) → IsTrue (is_lawful r) → seq ≡ h.seq → FoundOf h m seq r sources → (moment : ℕ) × WasJudged s r moment sources
+  was_judged seq sources lawful is found =
       let its : FoundOf h m (length s.before) r sources = subst (λ n. FoundOf h m n r sources) (is ∙ meets.stands.seq) found in
-      let least : seen ≡ seen_by m.writes (key_in s r) = subst (λ n. seen ≡ seen_by m.writes (key_of n r)) (is ∙ meets.stands.seq) saw in
       let all = its (did s) s.moments remembers in
       let read = read_action (does s r) sources (record_seen (length s.before) r lawful) all.is_read in
-      let judged : WasJudged there r read.0 sources seen.first =
-      record { is_read = read.1; is_drained = all.is_drained; is_first = subst (λ (span : Span). IsFirstSeen there r span.first) (sym least) first_seen } in
-      (read.0, subst (λ (x : Setting). WasJudged x r read.0 sources seen.first) (sym (is_settled h m s r meets)) judged)
+      let judged : WasJudged there r read.0 sources = record { is_read = read.1; is_drained = all.is_drained } in
+      (read.0, subst (λ (x : Setting). WasJudged x r read.0 sources) (sym (is_settled h m s r meets)) judged)

@@ -25,7 +25,8 @@ use Rattle.dt_traps.specs.declared.traps.TrapSpans.{TrapSpans}
 use Rattle.dt_traps.specs.Instructions.{access_address}
 use Rattle.dt_versions.specs.declared.moments.Span.{Span}
 use Rattle.dt_versions.specs.History.{History}
-use Rattle.dt_windows.specs.Kept.{page_moment}
+use Rattle.dt_windows.specs.Fences.{first_since}
+use Rattle.dt_windows.specs.Kept.{page_key}
 use Rattle.dt_judge.specs.Grounds.{Grounds}
 
 -- How the grounds of a record are seen from what is kept of its hart (this project's own).
@@ -34,20 +35,20 @@ abbrev pub span_of : (first last : ℕ) → Span
 span_of first last = record { first = first; last = last }
 
 -- the moments whose translation of an address may be used by a record that may see none after this last one
-abbrev pub window_kept : HartView → (last : ℕ) → (va : ℕ) → Span
-window_kept h last va = span_of (page_moment h.windows va) last
+abbrev pub window_kept : HartView → List Write → (last : ℕ) → (va : ℕ) → Span
+window_kept h writes last va = span_of (first_since writes (page_key h.windows va)) last
 
 -- the moments for the halves of the instruction at the pc
-abbrev pub fetch_kept : HartView → (last : ℕ) → FetchSpans
-fetch_kept h last = record {
-  first = window_kept h last h.arch.pc;
-  second = window_kept h last (sum_of 64 h.arch.pc 2);
-  since = span_of h.windows.instructions last;
+abbrev pub fetch_kept : HartView → List Write → (last : ℕ) → FetchSpans
+fetch_kept h writes last = record {
+  first = window_kept h writes last h.arch.pc;
+  second = window_kept h writes last (sum_of 64 h.arch.pc 2);
+  since = span_of (first_since writes h.windows.instructions) last;
 }
 
 -- the moments for a trap: of the fetch, and of the page that its instruction accesses, if it accesses one
-abbrev pub trap_kept : HartView → (last : ℕ) → (bits : ℕ) → TrapSpans
-trap_kept h last bits = record { fetch = fetch_kept h last; access = window_kept h last (unwrap_or (access_address h.arch bits) 0) }
+abbrev pub trap_kept : HartView → List Write → (last : ℕ) → (bits : ℕ) → TrapSpans
+trap_kept h writes last bits = record { fetch = fetch_kept h writes last; access = window_kept h writes last (unwrap_or (access_address h.arch bits) 0) }
 
 -- the grounds of such a record, where its hart did these actions
 abbrev pub grounds_kept : HartView → History → (last : ℕ) → List Action → (ℕ → ℕ) → Grounds
@@ -58,8 +59,8 @@ grounds_kept h m last actions moments = record {
   actions = actions;
   moments = moments;
   reserved = h.reserved;
-  fetch = fetch_kept h last;
-  window = window_kept h last;
+  fetch = fetch_kept h m.writes last;
+  window = window_kept h m.writes last;
 }
 
 -- what is kept of a hart is what these actions left, of which the loads read at these moments, before a record with this key

@@ -7,13 +7,14 @@ use crate::findings::finding;
 use crate::spans::seen_by;
 use dt_atomics::first_writes_decide_atomics;
 use dt_checks::first_writes_decide_checks;
-use dt_hart::{Hart, known_at_next};
+use dt_hart::{Hart, fences_are_earlier, known_at_next};
 use dt_record::{Key, Record};
 use dt_refills::first_writes_decide_refills;
 use dt_rules::{Letters, Reason};
 use dt_sources::Sources;
 use dt_traps::first_writes_decide_traps;
 use dt_versions::Moments;
+use dt_windows::last_fences_are_below;
 
 /// What the judge says of a record.
 #[derive(Clone, Copy, Debug, PartialEq, Eq)]
@@ -53,6 +54,8 @@ pub fn judge(h: &mut Hart, m: &Moments, event: &Record) -> Judged
     ensures unchanged { UnlessFine result (h.new ≡ h.old) }
 {
     known_at_next();
+    fences_are_earlier();
+    last_fences_are_below();
     first_writes_decide_atomics();
     first_writes_decide_checks();
     first_writes_decide_refills();
@@ -64,7 +67,7 @@ pub fn judge(h: &mut Hart, m: &Moments, event: &Record) -> Judged
     };
     let seen = seen_by(m, key);
     match finding(h, m, seen, key, event) {
-        Ok(passed) => match h.take(event, passed.sources, seen.first) {
+        Ok(passed) => match h.take(event, passed.sources) {
             Ok(()) => Judged::Fine {
                 letters: passed.letters,
                 sources: passed.sources,

@@ -85,9 +85,9 @@ fn trapped(
 ) -> Result<Letters, Misfit>
     requires within { last ≤ length m.now.writes }
     requires bits { IsTrue (are_trap_bits bits cause) }
-    ensures { result ≡ trap_check m.now.image m.now.writes (trap_kept h.now last bits) h.now.arch pc bits cause tval }
+    ensures { result ≡ trap_check m.now.image m.now.writes (trap_kept h.now m.now.writes last bits) h.now.arch pc bits cause tval }
 {
-    let spans = trap_spans(h, last, bits);
+    let spans = trap_spans(h, m, last, bits);
     dt_traps::trap(m, spans, h.arch(), pc, bits, cause, tval)
 }
 

@@ -4,6 +4,7 @@ ghost use Rattle.dt_checks.specs.Retiring.{IsRetired};
 ghost use Rattle.dt_checks.specs.Starting.{start_check};
 ghost use Rattle.dt_checks.specs.Translating.{walk_args};
 ghost use Rattle.dt_record.specs.Lawful.{is_instruction};
+ghost use Rattle.dt_windows.specs.Fences.{first_since};
 ghost use Rattle.dt_judge.specs.Keeping.{fetch_kept, trap_kept, window_kept};
 ghost use Rattle.dt_judge.specs.Kinds.{seen_by};
 
@@ -23,26 +24,36 @@ pub fn seen_by(m: &Moments, key: Key) -> Span
     m.visible(key, key.stamp)
 }
 
+/// The least moment that a hart could see at a fence, or the first of all where there was none.
+fn first_since(m: &Moments, fence: Option<Key>) -> u32
+    ensures { result ≡ first_since m.now.writes fence }
+{
+    match fence {
+        Some(key) => seen_by(m, key).first,
+        None => 0,
+    }
+}
+
 /// The moments up to a last one whose translation of an address the hart may use.
-fn window(h: &Hart, last: u32, va: u64) -> Span
-    ensures { result ≡ window_kept h.now last va }
+fn window(h: &Hart, m: &Moments, last: u32, va: u64) -> Span
+    ensures { result ≡ window_kept h.now m.now.writes last va }
 {
     Span {
-        first: h.windows().page(va),
+        first: first_since(m, h.windows().page(va)),
         last,
     }
 }
 
 /// The moments up to a last one for the halves of the instruction at the hart's pc.
-fn fetch_spans(h: &Hart, last: u32) -> FetchSpans
-    ensures { result ≡ fetch_kept h.now last }
+fn fetch_spans(h: &Hart, m: &Moments, last: u32) -> FetchSpans
+    ensures { result ≡ fetch_kept h.now m.now.writes last }
 {
     let pc = h.arch().pc;
     FetchSpans {
-        first: window(h, last, pc),
-        second: window(h, last, pc.wrapping_add(2)),
+        first: window(h, m, last, pc),
+        second: window(h, m, last, pc.wrapping_add(2)),
         since: Span {
-            first: h.windows().instructions(),
+            first: first_since(m, h.windows().instructions()),
             last,
         },
     }
@@ -50,13 +61,13 @@ fn fetch_spans(h: &Hart, last: u32) -> FetchSpans
 
 /// The moments up to a last one for a trap of the instruction with these bits: of its fetch, and of
 /// the page that it accesses, or of any page where it accesses none.
-pub fn trap_spans(h: &Hart, last: u32, bits: u32) -> TrapSpans
-    ensures { result ≡ trap_kept h.now last bits }
+pub fn trap_spans(h: &Hart, m: &Moments, last: u32, bits: u32) -> TrapSpans
+    ensures { result ≡ trap_kept h.now m.now.writes last bits }
 {
     let va = access_address(h.arch(), bits).unwrap_or(0);
     TrapSpans {
-        fetch: fetch_spans(h, last),
-        access: window(h, last, va),
+        fetch: fetch_spans(h, m, last),
+        access: window(h, m, last, va),
     }
 }
 
@@ -72,10 +83,10 @@ pub fn started(
 ) -> Result<Started, Misfit>
     requires within { last ≤ length m.now.writes }
     requires instruction { IsTrue (is_instruction bits) }
-    ensures value { result ≡ start_check m.now.image m.now.writes (fetch_kept h.now last) h.now.arch pc bits tag }
+    ensures value { result ≡ start_check m.now.image m.now.writes (fetch_kept h.now m.now.writes last) h.now.arch pc bits tag }
     ensures retired { IfOk result (λ st. IsRetired h.now.arch bits tag st.plan) }
 {
-    start(m, fetch_spans(h, last), h.arch(), pc, bits, tag)
+    start(m, fetch_spans(h, m, last), h.arch(), pc, bits, tag)
 }
 
 /// Whether an access may have reached the physical address only by an older translation, where it
@@ -90,9 +101,9 @@ pub fn accessed(
     paddr: u64,
 ) -> Result<bool, Misfit>
     requires within { last ≤ length m.now.writes }
-    ensures value { result ≡ address_check m.now.image m.now.writes (window_kept h.now last va) (walk_args h.now.arch access va) ram_only paddr }
+    ensures value { result ≡ address_check m.now.image m.now.writes (window_kept h.now m.now.writes last va) (walk_args h.now.arch access va) ram_only paddr }
     ensures place { OnOk result (IsPlaceOf va ram_only paddr) }
 {
     let args = walk_args(h.arch(), access, va);
-    address(m, window(h, last, va), args, ram_only, paddr)
+    address(m, window(h, m, last, va), args, ram_only, paddr)
 }

@@ -1,3 +1,5 @@
 mod Bounds
-mod Present
+mod Bytes
 mod Raised
+mod Soundness
+mod Undoing

@@ -1,2 +1,3 @@
 pub mod LocalMemory
+pub mod Marks
 pub mod Slots

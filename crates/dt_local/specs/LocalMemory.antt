@@ -1,4 +1,4 @@
-use Rattle.std.specs.Prelude.{ℕ, ◌≡◌, ◌%◌, ◌==◌, ◌&&◌, Bool, true, not, if◌then◌else◌, Option, None, Some, List, slice_get}
+use Rattle.std.specs.Prelude.{ℕ, ◌≡◌, ◌%◌, ◌==◌, ◌&&◌, Bool, true, false, not, if◌then◌else◌, Option, None, Some, List, [], slice_get}
 use Rattle.std.specs.Int.{bit_at}
 use Rattle.std.specs.Map.{lookup}
 use Rattle.dt_record.specs.declared.keys.Key.{Key}
@@ -15,13 +15,18 @@ pub record Reserved : Type 0 where
 abbrev pub reserved_at : ℕ → ℕ → Reserved
 reserved_at line mask = record { line = line; mask = mask }
 
--- the greatest key of each byte that has one, by rising addresses, and what is reserved
+-- the greatest key of each byte that has one, by rising addresses, and what is reserved; whether
+-- the past is kept, how many steps came before it, and the keys before each step since then, oldest first
 pub record LocalMemory : Type 0 where
   pub keys : List (ℕ × Key)
   pub reserved : Option Reserved
+  pub keeps : Bool
+  pub from : ℕ
+  pub past : List (List (ℕ × Key))
 
+-- one without a past
 abbrev pub local_memory : List (ℕ × Key) → Option Reserved → LocalMemory
-local_memory keys reserved = record { keys = keys; reserved = reserved }
+local_memory keys reserved = record { keys = keys; reserved = reserved; keeps = false; from = 0; past = [] }
 
 -- the key of a byte
 abbrev pub newest_of : LocalMemory → ℕ → Option Key

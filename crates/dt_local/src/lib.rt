@@ -4,8 +4,10 @@
 mod laws;
 mod local;
 mod slots;
+mod steps;
 #[cfg(test)]
 mod tests;
+mod words;
 
-pub use laws::greater_bounds_both;
-pub use local::Local;
+pub use laws::{greater_bounds_both, marks_stay_live};
+pub use local::{Local, Mark};

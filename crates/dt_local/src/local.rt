@@ -1,8 +1,11 @@
-ghost use Rattle.std.specs.Prelude.{◌≡◌, ℕ, [], Some, None, IsTrue, OnOk, OnErr};
+ghost use Rattle.std.specs.Prelude.{◌≡◌, ℕ, ◌+◌, [], Some, None, true, false, length, IsTrue, IfOk, OnOk, OnErr};
 ghost use Rattle.dt_record.specs.Lawful.{is_ram_line};
 ghost use Rattle.dt_local.specs.LocalMemory.{local_memory, reserved_at, newest_of, noted_key, greater};
+ghost use Rattle.dt_local.specs.Marks.{IsLive, KeepsMarks, undone, forgotten};
 
-use crate::slots::{make_room, raise_all};
+use crate::slots::{Slot, key_of_byte};
+use crate::steps::{Steps, no_steps, reserve_steps};
+use crate::words::{forget_steps, make_room, raise_all, undo_steps};
 use dt_record::Key;
 use std::alloc::{AllocError, Global};
 use std::collections::BTreeMap;
@@ -10,10 +13,12 @@ use std::marker::Model;
 
 /// What a hart has read and written so far: for each byte, the greatest key that was noted.
 ///
-/// Each byte has a slot from its first reservation on, so that a note takes no memory.
+/// Each word has a slot from its first reservation on, so that a note takes no memory, and nor
+/// does its undoing.
 #[derive(Debug, Drop)]
 pub struct Local {
-    slots: BTreeMap<u64, Option<Key>>,
+    slots: BTreeMap<u64, Slot>,
+    steps: Steps,
     reserved: Option<Reservation>,
 }
 
@@ -24,16 +29,22 @@ struct Reservation {
     mask: u64,
 }
 
+/// A place in the past of a local memory: how many steps came before it.
+#[derive(Clone, Copy, Debug, PartialEq, Eq)]
+pub struct Mark {
+    at: u64,
+}
+
 impl Model for Local {
     ghost use Rattle.std.specs.Prelude.{option_map};
-    ghost use Rattle.dt_local.specs.LocalMemory.{LocalMemory, local_memory, reserved_at};
-    ghost use Rattle.dt_local.specs.Slots.{present, HasRoom};
+    ghost use Rattle.dt_local.specs.LocalMemory.{LocalMemory, reserved_at};
+    ghost use Rattle.dt_local.specs.Slots.{memory_of, IsSound};
 
     ghost Value = { LocalMemory };
 
-    ghost view = { λ l. local_memory (present l.slots.entries) (option_map (λ r. reserved_at r.line r.mask) l.reserved) };
+    ghost view = { λ l. memory_of l.slots.entries l.steps (option_map (λ r. reserved_at r.line r.mask) l.reserved) };
 
-    ghost invariant = { λ l. HasRoom l.slots (option_map (λ r. reserved_at r.line r.mask) l.reserved) };
+    ghost invariant = { λ l. IsSound l.slots l.steps (option_map (λ r. reserved_at r.line r.mask) l.reserved) };
 }
 
 impl Local {
@@ -43,6 +54,7 @@ impl Local {
     {
         Local {
             slots: BTreeMap::new(alloc),
+            steps: no_steps(alloc),
             reserved: None,
         }
     }
@@ -51,7 +63,10 @@ impl Local {
     pub fn newest(&self, addr: u64) -> Option<Key>
         ensures { result ≡ newest_of self.now addr }
     {
-        self.slots.get(&addr).copied().flatten()
+        match self.slots.get(&(addr / 8)) {
+            Some(slot) => key_of_byte(slot, (addr % 8) as usize),
+            None => None,
+        }
     }
 
     /// Makes room so that the next `note`, of these bytes of a line, takes no memory.
@@ -61,6 +76,7 @@ impl Local {
         ensures unchanged { OnErr result (self.new ≡ self.old) }
     {
         make_room(&mut self.slots, line, mask)?;
+        reserve_steps(&mut self.steps)?;
         self.reserved = Some(Reservation { line, mask });
         Ok(())
     }
@@ -70,8 +86,56 @@ impl Local {
         requires { self.old.reserved ≡ Some (reserved_at line mask) }
         ensures noted { (addr : ℕ) → newest_of self.new addr ≡ greater (newest_of self.old addr) (noted_key line mask keys.now addr) }
         ensures used { self.new.reserved ≡ None }
+        ensures marks { KeepsMarks self.old self.new }
     {
-        raise_all(&mut self.slots, line, mask, keys);
+        raise_all(&mut self.slots, &mut self.steps, line, mask, keys);
         self.reserved = None;
+    }
+
+    /// The place at which the memory stands, to which it can be undone from now on.
+    pub fn mark(&mut self) -> Mark
+        ensures here { result ≡ record { at = self.old.from + length self.old.past } }
+        ensures kept { self.new ≡ record self.old { keeps = true } }
+        ensures live { IsLive self.new result }
+    {
+        self.steps.keeps = true;
+        Mark {
+            at: self.steps.from + self.steps.kept.len() as u64,
+        }
+    }
+
+    /// Makes the memory what it was at a mark. That mark, and each earlier one, can be undone to
+    /// again.
+    pub fn undo_to(&mut self, m: Mark)
+        requires { IsLive self.old m }
+        ensures { self.new ≡ undone self.old m }
+    {
+        let count = (m.at - self.steps.from) as usize;
+        undo_steps(&mut self.slots, &mut self.steps.kept, count);
+        self.reserved = None;
+    }
+
+    /// Forgets what came before a mark, so that no earlier one can be undone to.
+    pub fn forget(&mut self, m: Mark)
+        requires { IsLive self.old m }
+        ensures { self.new ≡ forgotten self.old m }
+    {
+        let count = (m.at - self.steps.from) as usize;
+        forget_steps(&mut self.steps.kept, count);
+        self.steps.from = m.at;
+    }
+
+    /// A memory of the same bytes, without a past.
+    pub fn copy(&self, alloc: Global) -> Result<Local, AllocError>
+        ensures { IfOk result (λ l. l ≡ record self.now { keeps = false; from = 0; past = [] }) }
+    {
+        let slots = self.slots.clone()?;
+        let mut steps = no_steps(alloc);
+        reserve_steps(&mut steps)?;
+        Ok(Local {
+            slots,
+            steps,
+            reserved: self.reserved,
+        })
     }
 }

@@ -1,95 +1,112 @@
-ghost use Rattle.std.specs.Prelude.{◌≡◌, ℕ, ◌+◌, ◌%◌, ◌<◌, ◌==◌, Some, None, IsTrue, IsSome, OnOk, OnErr, length};
+ghost use Rattle.std.specs.Prelude.{◌≡◌, ◌≢◌, ℕ, ◌+◌, ◌*◌, ◌<◌, ◌==◌, Option, Some, None, slice_get};
 ghost use Rattle.std.specs.Int.{bit_at};
-ghost use Rattle.std.specs.Ordering.{nat_cmp};
-ghost use Rattle.std.specs.BTreeMap.{get, IsOrdered, Updates};
-ghost use Rattle.dt_record.specs.Lawful.{is_ram_line};
-ghost use Rattle.dt_local.specs.LocalMemory.{greater, is_noted, noted_key};
-ghost use Rattle.dt_local.specs.Slots.{present, slot_key, noted_at};
+ghost use Rattle.dt_local.specs.LocalMemory.{greater};
+ghost use Rattle.dt_local.specs.Slots.{key_at, noted_in, has_word};
 
 use dt_record::Key;
-use std::alloc::AllocError;
-use std::collections::BTreeMap;
 
-/// Gives each of these bytes of the line a slot, where it has none.
-pub fn make_room(
-    slots: &mut BTreeMap<u64, Option<Key>>,
-    line: u64,
-    mask: u64,
-) -> Result<(), AllocError>
-    requires line { IsTrue (is_ram_line line) }
-    requires ordered { IsOrdered nat_cmp slots.old }
-    ensures same { present slots.new.entries ≡ present slots.old.entries }
-    ensures kept { (addr : ℕ) → IsSome (get nat_cmp slots.old addr) → IsSome (get nat_cmp slots.new addr) }
-    ensures room { OnOk result ((addr : ℕ) → IsTrue (is_noted line mask addr) → IsSome (get nat_cmp slots.new addr)) }
-    ensures in_order { IsOrdered nat_cmp slots.new }
-{
-    for place in 0..64 {
-        if has_byte(mask, place) {
-            add_slot(slots, line + place)?;
-        }
-    }
-    Ok(())
+/// What is known of the 8 bytes of an aligned word.
+#[derive(Clone, Copy, Debug)]
+pub struct Slot {
+    /// The greatest key of each byte that has one.
+    keys: [Key; 8],
+    /// The bytes that have one.
+    mask: u8,
 }
 
-/// Whether a mask has the byte at a place of its line.
-fn has_byte(mask: u64, place: u64) -> bool
+/// A word none of whose bytes has a key.
+pub fn empty_slot() -> Slot
+    ensures { result.mask ≡ 0 }
+{
+    let none = Key {
+        stamp: 0,
+        hart: 0,
+        seq: 0,
+    };
+    Slot {
+        keys: [none; 8],
+        mask: 0,
+    }
+}
+
+/// The key of the byte at a place of its word.
+pub fn key_of_byte(slot: &Slot, place: usize) -> Option<Key>
+    requires { place < 8 }
+    ensures { result ≡ key_at slot.now place }
+{
+    if has_byte(u64::from(slot.mask), place) {
+        Some(slot.keys[place])
+    } else {
+        None
+    }
+}
+
+/// Whether a mask has the byte at a place.
+fn has_byte(mask: u64, place: usize) -> bool
     requires { place < 64 }
     ensures { result ≡ (bit_at mask place == 1) }
 {
     (mask >> place) & 1 == 1
 }
 
-fn add_slot(slots: &mut BTreeMap<u64, Option<Key>>, addr: u64) -> Result<(), AllocError>
-    requires { IsOrdered nat_cmp slots.old }
-    ensures same { present slots.new.entries ≡ present slots.old.entries }
-    ensures kept { (other : ℕ) → IsSome (get nat_cmp slots.old other) → IsSome (get nat_cmp slots.new other) }
-    ensures room { OnOk result (IsSome (get nat_cmp slots.new addr)) }
-    ensures in_order { IsOrdered nat_cmp slots.new }
+/// Whether a line's mask has a byte of the word at a place of the line.
+pub fn has_word(mask: u64, place: usize) -> bool
+    requires { place < 8 }
+    ensures { result ≡ has_word mask place }
 {
-    if !slots.contains_key(&addr) {
-        slots.insert(addr, None)?;
-    }
-    Ok(())
+    (mask >> (8 * place)) % 256 != 0
 }
 
-/// Raises the keys of these bytes of the line to the given ones, where those are greater.
-pub fn raise_all(slots: &mut BTreeMap<u64, Option<Key>>, line: u64, mask: u64, keys: &[Key; 64])
-    requires line { IsTrue (is_ram_line line) }
-    requires ordered { IsOrdered nat_cmp slots.old }
-    requires room { (addr : ℕ) → IsTrue (is_noted line mask addr) → IsSome (get nat_cmp slots.old addr) }
-    ensures raised { (addr : ℕ) → slot_key slots.new addr ≡ greater (slot_key slots.old addr) (noted_key line mask keys.now addr) }
-    ensures kept { (addr : ℕ) → IsSome (get nat_cmp slots.old addr) → IsSome (get nat_cmp slots.new addr) }
-    ensures in_order { IsOrdered nat_cmp slots.new }
+/// Raises the keys of the word at a place of its line to those that the mask gives, where these
+/// are greater.
+pub fn raise_slot(slot: &mut Slot, mask: u64, keys: &[Key; 64], place: usize)
+    requires { place < 8 }
+    ensures { (byte : ℕ) → byte < 8 → key_at slot.new byte ≡ greater (key_at slot.old byte) (noted_in mask keys.now (8 * place + byte)) }
 {
-    for place in 0..64 {
-        raise_place(slots, line, mask, place as u64, keys[place]);
+    for byte in 0..8 {
+        let noted = noted_key(mask, keys, 8 * place + byte);
+        raise_byte(slot, byte, noted);
     }
 }
 
-/// Raises the key of one byte of the line, where the mask has it.
-fn raise_place(slots: &mut BTreeMap<u64, Option<Key>>, line: u64, mask: u64, place: u64, key: Key)
-    requires line { IsTrue (is_ram_line line) }
-    requires within { place < 64 }
-    requires ordered { IsOrdered nat_cmp slots.old }
-    requires room { bit_at mask place ≡ 1 → IsSome (get nat_cmp slots.old (line + place)) }
-    ensures raised { (addr : ℕ) → slot_key slots.new addr ≡ greater (slot_key slots.old addr) (noted_at line mask place key addr) }
-    ensures kept { (addr : ℕ) → IsSome (get nat_cmp slots.old addr) → IsSome (get nat_cmp slots.new addr) }
-    ensures in_order { IsOrdered nat_cmp slots.new }
+/// The key that the byte at a place of its line is given, where it is given one.
+fn noted_key(mask: u64, keys: &[Key; 64], place: usize) -> Option<Key>
+    requires { place < 64 }
+    ensures { result ≡ noted_in mask keys.now place }
 {
     if has_byte(mask, place) {
-        raise(slots, line + place, key);
+        Some(keys[place])
+    } else {
+        None
     }
 }
 
-fn raise(slots: &mut BTreeMap<u64, Option<Key>>, addr: u64, key: Key)
-    requires ordered { IsOrdered nat_cmp slots.old }
-    requires room { IsSome (get nat_cmp slots.old addr) }
-    ensures updates { Updates nat_cmp slots.old slots.new addr (Some (greater (slot_key slots.old addr) (Some key))) }
-    ensures in_order { IsOrdered nat_cmp slots.new }
+fn raise_byte(slot: &mut Slot, place: usize, noted: Option<Key>)
+    requires { place < 8 }
+    ensures here { key_at slot.new place ≡ greater (key_at slot.old place) noted }
+    ensures others { (other : ℕ) → other < 8 → other ≢ place → key_at slot.new other ≡ key_at slot.old other }
 {
-    if let Some(slot) = slots.get_mut(&addr) {
-        *slot = Some(greater_of(*slot, key));
+    if let Some(key) = noted {
+        let raised = greater_of(key_of_byte(slot, place), key);
+        set_byte(slot, place, raised);
     }
+}
+
+fn set_byte(slot: &mut Slot, place: usize, key: Key)
+    requires { place < 8 }
+    ensures here { key_at slot.new place ≡ Some key }
+    ensures others { (other : ℕ) → other < 8 → other ≢ place → key_at slot.new other ≡ key_at slot.old other }
+{
+    set_key(&mut slot.keys, place, key);
+    slot.mask |= 1 << place;
+}
+
+fn set_key(keys: &mut [Key; 8], place: usize, key: Key)
+    requires { place < 8 }
+    ensures here { slice_get keys.new place ≡ Some key }
+    ensures others { (other : ℕ) → other < 8 → other ≢ place → slice_get keys.new other ≡ slice_get keys.old other }
+{
+    keys[place] = key;
 }
 
 fn greater_of(old: Option<Key>, key: Key) -> Key

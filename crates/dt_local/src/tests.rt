@@ -1,5 +1,6 @@
 ghost use Rattle.std.specs.Prelude.{IsTrue};
 ghost use Rattle.dt_record.specs.Lawful.{is_ram_line};
+ghost use Rattle.dt_local.specs.Marks.{KeepsMarks};
 
 use crate::Local;
 use dt_record::Key;
@@ -12,6 +13,7 @@ fn key(stamp: u64, hart: u8, seq: u32) -> Key {
 
 fn noted(local: &mut Local, line: u64, mask: u64, keys: &[Key; 64]) -> Result<(), AllocError>
     requires { IsTrue (is_ram_line line) }
+    ensures { KeepsMarks local.old local.new }
 {
     local.reserve(line, mask)?;
     local.note(line, mask, keys);
@@ -44,5 +46,30 @@ fn local_memory_keeps_the_greater_key(rt: HostRuntime) -> Result<(), Fail> {
     }
     noted(&mut local, 0x8000_0000, 0b100, &[key(10, 0, 10); 64])?;
     assert_eq!(rt; local.newest(0x8000_0002), Some(key(10, 0, 10)));
+    Ok(())
+}
+
+#[test]
+fn marks_are_undone_to_and_forgotten(rt: HostRuntime) -> Result<(), Fail> {
+    let mut local = Local::new(rt.alloc());
+    noted(&mut local, 0x8000_0000, 0b11, &[key(10, 1, 5); 64])?;
+    let first = local.mark();
+    noted(&mut local, 0x8000_0000, u64::MAX, &[key(12, 1, 6); 64])?;
+    let second = local.mark();
+    noted(&mut local, 0x8000_0040, 1, &[key(13, 1, 7); 64])?;
+    assert_eq!(rt; local.newest(0x8000_0040), Some(key(13, 1, 7)));
+    local.undo_to(second);
+    assert_eq!(rt; local.newest(0x8000_0040), None);
+    assert_eq!(rt; local.newest(0x8000_003f), Some(key(12, 1, 6)));
+    let copy = local.copy(rt.alloc())?;
+    local.undo_to(first);
+    for (addr, newest) in [(0x8000_0001, Some(key(10, 1, 5))), (0x8000_003f, None)] {
+        assert_eq!(rt; local.newest(addr), newest, "{addr:x}");
+    }
+    local.forget(first);
+    local.undo_to(first);
+    assert_eq!(rt; local.newest(0x8000_0000), Some(key(10, 1, 5)));
+    assert_eq!(rt; copy.newest(0x8000_003f), Some(key(12, 1, 6)));
+    assert_eq!(rt; copy.newest(0x8000_0040), None);
     Ok(())
 }

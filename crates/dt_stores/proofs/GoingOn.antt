@@ -1,16 +1,19 @@
-use Rattle.std.proofs.Common.{ℕ, ◌≡◌, ◌+◌, ◌≤◌, true, false, None, List, [], ◌∷◌, ◌++◌, length, filter, take, drop, zero, suc, refl, sym, ap, ◌∙◌, inl, inr, IsTrue, arith}
+use Rattle.std.proofs.Common.{ℕ, ◌≡◌, ◌+◌, ◌-◌, ◌≤◌, Some, IfSome, true, false, None, List, [], ◌∷◌, ◌++◌, length, filter, take, drop, zero, suc, refl, sym, ap, ◌∙◌, inl, inr, IsTrue, arith}
 use Rattle.std.proofs.lemmas.List.{append-nil, take-append-drop}
 use Rattle.std.proofs.lemmas.Bool.{cases_Bool}
+use Rattle.std.proofs.lemmas.List.Elements.{All-cons, All-head, All-tail, All-same, All-push}
+use Rattle.dt_record.specs.Keys.{KeyBelow}
 use Rattle.dt_record.specs.declared.keys.Key.{Key}
 use Rattle.dt_record.specs.declared.accesses.OwnStore.{OwnStore}
 use Rattle.dt_record.specs.Actions.{Action, Stored, Drained, Fenced, Loaded, Atomic, Held, held_of, held_from, ww_fences, wr_fences, drains_on}
 use Rattle.dt_stores.specs.Kept.{Kept}
-use Rattle.dt_stores.specs.Standing.{StandsFor, stores_of}
+use Rattle.dt_stores.specs.Standing.{StandsFor, stores_of, counted}
 use Rattle.dt_stores.specs.Draining.{is_waiting_on}
 use Rattle.dt_stores.specs.Plans.{TakesFirst}
-use Rattle.dt_stores.specs.GoingOn.{StoresGoOn, is_quiet}
-use Rattle.dt_stores.proofs.ActionLaws.{stores_of-append}
-use Rattle.dt_stores.proofs.DrainLaws.{marked, marked-append}
+use Rattle.dt_stores.specs.GoingOn.{StoresGoOn, AreDrainedBelow, DrainsStayBelow, is_quiet}
+use Rattle.dt_stores.proofs.ActionLaws.{stores_of-append, held_from-append}
+use Rattle.dt_stores.proofs.DrainLaws.{marked, marked-append, held_from-drained}
+use Rattle.dt_stores.proofs.Marking.{walk}
 use Rattle.dt_stores.proofs.StandingLaws.{held_after, stands_stored, stands_drained}
 
 -- What the stores of a hart are after one more action.
@@ -93,3 +96,30 @@ going_on = record {
   drained = drained_first;
   quiet = left_alone;
 }
+
+-- keys that are above those of all drains
+abbrev Below : Key → Held → Type 0
+Below key h = IfSome h.drained (λ k. KeyBelow k key)
+
+marked_below : (line : ℕ) (own key : Key) → KeyBelow own key → (left : ℕ) (held : List Held) → AreDrainedBelow key held → AreDrainedBelow key (marked line own left held)
+marked_below line own key below = walk line own (λ left old new. AreDrainedBelow key old → AreDrainedBelow key new)
+    (λ left all. all)
+    (λ left h hs ms waits on rest all. All-cons (Below key) (record h { drained = Some own }) ms below (rest (All-tail (Below key) h hs all)))
+    (λ left h hs ms out rest all. All-cons (Below key) h ms (All-head (Below key) h hs all) (rest (All-tail (Below key) h hs all)))
+
+held_drained : (actions : List Action) (own : Key) (line count : ℕ) → held_of (actions ++ Drained own line count ∷ []) ≡ marked line own count (held_of actions)
+held_drained actions own line count =
+    let all : count - (0 - counted (drains_on line actions)) ≡ count = omega arith in
+    held_from-append (actions ++ Drained own line count ∷ []) [] 0 0 actions (Drained own line count ∷ [])
+    ∙ append-nil (held_from (actions ++ Drained own line count ∷ []) [] 0 0 actions)
+    ∙ held_from-drained actions line own count [] 0 0 actions
+    ∙ ap (λ k. marked line own k (held_of actions)) all
+
+pub stay_below : DrainsStayBelow
+stay_below kept actions (Stored s) key stands own below =
+    All-same (Below key) _ _ (stored_last kept actions s stands) (All-push (Below key) (held_of actions) (record { store = s; barrier = ww_fences actions; readers = wr_fences actions; drained = None }) below tt)
+stay_below kept actions (Drained own line count) key stands low below =
+    All-same (Below key) _ _ (held_drained actions own line count) (marked_below line own key low count (held_of actions) below)
+stay_below kept actions (Fenced ww wr rr) key stands own below = All-same (Below key) _ _ (left_alone actions (Fenced ww wr rr) refl) below
+stay_below kept actions (Loaded ask) key stands own below = All-same (Below key) _ _ (left_alone actions (Loaded ask) refl) below
+stay_below kept actions (Atomic own addr width reads acquires) key stands low below = All-same (Below key) _ _ (left_alone actions (Atomic own addr width reads acquires) refl) below

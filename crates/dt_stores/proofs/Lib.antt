@@ -1,8 +1,14 @@
 mod ActionLaws
 mod DrainLaws
+mod Firsts
 mod GoingOn
+mod Keeping
 mod Lists
+mod Marking
 mod MergeLaws
+mod PlacesOn
 mod PlanLaws
+mod RamLines
+mod Searching
 mod SearchLaws
 mod StandingLaws

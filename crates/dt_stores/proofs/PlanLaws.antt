@@ -1,49 +1,14 @@
-use Rattle.std.proofs.Common.{◌≡◌, ℕ, ◌+◌, ◌<◌, ◌≤◌, Option, Some, None, option_map, List, ◌++◌, length, filter, find, take, drop, true, false, nat_lt, refl, sym, ap, ◌∙◌, arith, length-append}
-use Rattle.std.proofs.Math.Seq.{take-append_seam}
-use Rattle.std.proofs.lemmas.List.{take-append-drop}
-use Rattle.std.proofs.lemmas.List.Elements.{filter-append}
-use Rattle.std.proofs.lemmas.Bool.{lt-ltb, le-ltb}
+use Rattle.std.proofs.Common.{◌≡◌, ℕ, ◌≤◌, Option, Some, None, option_map, List, length, filter, find, take, drop, true, false, nat_lt, refl, sym, ap, ◌∙◌, inl, inr}
+use Rattle.std.proofs.lemmas.Bool.{cases_lt, lt-ltb, le-ltb, false≢true}
+use Rattle.std.specs.List.{position_or_len}
 use Rattle.std.specs.Option.{option_map_or}
-use Rattle.dt_record.specs.declared.keys.Key.{Key}
-use Rattle.dt_record.specs.Actions.{Action, Drained, Held}
+use Rattle.dt_record.specs.Actions.{Action, Held, is_waiting}
 use Rattle.dt_stores.specs.declared.answers.DrainAnswer.{DrainAnswer}
 use Rattle.dt_stores.specs.declared.answers.DrainAnswer.TheVariants as answer
 use Rattle.dt_stores.specs.Kept.{Kept}
-use Rattle.dt_stores.specs.Standing.{StandsFor, GainsAction}
-use Rattle.dt_stores.specs.Draining.{is_waiting_on, is_barring, youngest_barrier, took, barred_or, answer_among, drain_answer, OnTook}
-use Rattle.dt_stores.specs.Plans.{TakesFirst}
-use Rattle.dt_stores.proofs.DrainLaws.{marked, marked-append}
-use Rattle.dt_stores.proofs.StandingLaws.{stands_drained}
-
--- those that wait in two parts
-waiting-split : (line end : ℕ) (held : List Held) → filter (is_waiting_on line) held ≡ filter (is_waiting_on line) (take end held) ++ filter (is_waiting_on line) (drop end held)
-waiting-split line end held =
-    ap (filter (is_waiting_on line)) (sym (take-append-drop end held)) ∙ filter-append (is_waiting_on line) (take end held) (drop end held)
-
-take-front : (n : ℕ) (xs ys : List Held) → length xs ≡ n → take n (xs ++ ys) ≡ xs
-take-front n xs ys long = ap (λ k. take k (xs ++ ys)) (sym long) ∙ take-append_seam xs ys
-
-pub waiting_enough : (line count end : ℕ) (held : List Held) → length (filter (is_waiting_on line) (take end held)) ≡ count → count ≤ length (filter (is_waiting_on line) held)
-waiting_enough line count end held enough =
-    let parts : length (filter (is_waiting_on line) held) ≡ length (filter (is_waiting_on line) (take end held)) + length (filter (is_waiting_on line) (drop end held)) =
-    ap length (waiting-split line end held) ∙ length-append (filter (is_waiting_on line) (take end held)) (filter (is_waiting_on line) (drop end held)) in
-    omega arith
-
--- too few wait
-pub answers_few : (line count waiting : ℕ) (held : List Held) → length (filter (is_waiting_on line) held) ≡ waiting → waiting < count → answer_among held line count ≡ answer.Few waiting
-answers_few line count waiting held long few =
-    let less : nat_lt (length (filter (is_waiting_on line) held)) count ≡ true = lt-ltb (length (filter (is_waiting_on line) held)) count (omega arith) in
-    rw less (ap (λ n. answer.Few n) long)
-
--- so many wait before a place
-pub answers_enough : (line count end : ℕ) (held : List Held) → length (filter (is_waiting_on line) (take end held)) ≡ count
-    → answer_among held line count ≡ barred_or held line (filter (is_waiting_on line) (take end held))
-answers_enough line count end held enough =
-    let most : count ≤ length (filter (is_waiting_on line) held) = waiting_enough line count end held enough in
-    let not_less : nat_lt (length (filter (is_waiting_on line) held)) count ≡ false = le-ltb (length (filter (is_waiting_on line) held)) count most in
-    let first : take count (filter (is_waiting_on line) held) ≡ filter (is_waiting_on line) (take end held) =
-    ap (take count) (waiting-split line end held) ∙ take-front count (filter (is_waiting_on line) (take end held)) (filter (is_waiting_on line) (drop end held)) enough in
-    rw not_less (ap (λ l. barred_or held line l) first)
+use Rattle.dt_stores.specs.Standing.{StandsFor}
+use Rattle.dt_stores.specs.Draining.{is_waiting_on, is_barring, youngest_barrier, took, barred_or, answer_among, drain_answer, is_taking, OnTook}
+use Rattle.dt_stores.proofs.Firsts.{find-behind}
 
 -- whether one bars it
 barred-some : (o : Option Held) (seq : ℕ) (a : DrainAnswer) → option_map (λ h. h.store.seq) o ≡ Some seq → option_map_or (λ h. answer.Barred h.store.seq) o a ≡ answer.Barred seq
@@ -54,38 +19,54 @@ barred-none : (o : Option Held) (a : DrainAnswer) → option_map (λ h. h.store.
 barred-none None a found = refl
 barred-none (Some h) a found = cc
 
-pub answers_barred : (line count end barrier seq : ℕ) (held : List Held) → length (filter (is_waiting_on line) (take end held)) ≡ count
-    → barrier ≡ youngest_barrier 0 (filter (is_waiting_on line) (take end held))
-    → Some seq ≡ option_map (λ h. h.store.seq) (find (is_barring line barrier) held)
-    → answer_among held line count ≡ answer.Barred seq
-answers_barred line count end barrier seq held enough barrier_is found =
-    answers_enough line count end held enough
-    ∙ barred-some (find (is_barring line (youngest_barrier 0 (filter (is_waiting_on line) (take end held)))) held) seq (took (filter (is_waiting_on line) (take end held)))
-    (sym (found ∙ ap (λ b. option_map (λ h. h.store.seq) (find (is_barring line b) held)) barrier_is))
-
-pub answers_took : (line count end barrier : ℕ) (held : List Held) → length (filter (is_waiting_on line) (take end held)) ≡ count
-    → barrier ≡ youngest_barrier 0 (filter (is_waiting_on line) (take end held))
-    → None ≡ option_map (λ h. h.store.seq) (find (is_barring line barrier) held)
-    → answer_among held line count ≡ took (filter (is_waiting_on line) (take end held))
-answers_took line count end barrier held enough barrier_is found =
-    answers_enough line count end held enough
-    ∙ barred-none (find (is_barring line (youngest_barrier 0 (filter (is_waiting_on line) (take end held)))) held) (took (filter (is_waiting_on line) (take end held)))
-    (sym (found ∙ ap (λ b. option_map (λ h. h.store.seq) (find (is_barring line b) held)) barrier_is))
-
--- after a drain took its stores
-pub takes_marked : (line : ℕ) (key : Key) (count : ℕ) (old new : List Held) → TakesFirst line key count old new → new ≡ marked line key count old
-takes_marked line key count old new takes =
-    takes.after ∙ sym (ap (λ l. marked line key count l) (sym (take-append-drop takes.end old))
-    ∙ marked-append line key count (take takes.end old) (drop takes.end old) (sym takes.enough))
-
-pub took_gains : (old new : Kept) (line : ℕ) (key : Key) (count : ℕ) (result : DrainAnswer)
-    → OnTook result (TakesFirst line key count old.held new.held) → new.ww ≡ old.ww → new.wr ≡ old.wr → OnTook result (GainsAction old new (Drained key line count))
-took_gains old new line key count (answer.Took mask bytes) takes ww wr =
-    λ actions stands. stands_drained old new key line count actions (takes_marked line key count old.held new.held takes) ww wr (waiting_enough line count takes.end old.held takes.enough) stands
-took_gains old new line key count (answer.Few held) takes ww wr = tt
-took_gains old new line key count (answer.Barred seq) takes ww wr = tt
-took_gains old new line key count answer.OutOfMemory takes ww wr = tt
-
 pub answer_stands : (kept : Kept) (line count : ℕ) (result : DrainAnswer) → result ≡ answer_among kept.held line count
     → (actions : List Action) → StandsFor kept actions → result ≡ drain_answer actions line count
 answer_stands kept line count result answers actions stands = answers ∙ ap (λ l. answer_among l line count) stands.held
+
+-- the answer by the stores that wait on the line
+pub answers_by : (line count : ℕ) (held : List Held) → count ≤ length (filter (is_waiting_on line) held)
+    → answer_among held line count ≡ barred_or held line (take count (filter (is_waiting_on line) held))
+answers_by line count held enough =
+    let not_less : nat_lt (length (filter (is_waiting_on line) held)) count ≡ false = le-ltb (length (filter (is_waiting_on line) held)) count enough in
+    rw not_less refl
+
+drained-bars-none : (line barrier : ℕ) (h : Held) → is_waiting h ≡ false → is_barring line barrier h ≡ false
+drained-bars-none line barrier h drained = rw drained refl
+
+pub bars : (line count first barrier seq : ℕ) (held : List Held) → count ≤ length (filter (is_waiting_on line) held)
+    → first ≤ position_or_len is_waiting held
+    → barrier ≡ youngest_barrier 0 (take count (filter (is_waiting_on line) held))
+    → Some seq ≡ option_map (λ h. h.store.seq) (find (is_barring line barrier) (drop first held))
+    → answer.Barred seq ≡ answer_among held line count
+bars line count first barrier seq held enough before barrier_is found =
+    sym (answers_by line count held enough
+    ∙ barred-some (find (is_barring line (youngest_barrier 0 (take count (filter (is_waiting_on line) held)))) held) seq (took (take count (filter (is_waiting_on line) held)))
+    (sym (found ∙ ap (option_map (λ (h : Held). h.store.seq)) (find-behind (is_barring line barrier) is_waiting (drained-bars-none line barrier) first held before)
+    ∙ ap (λ b. option_map (λ h. h.store.seq) (find (is_barring line b) held)) barrier_is)))
+
+pub takes : (line count first barrier : ℕ) (held : List Held) → count ≤ length (filter (is_waiting_on line) held)
+    → first ≤ position_or_len is_waiting held
+    → barrier ≡ youngest_barrier 0 (take count (filter (is_waiting_on line) held))
+    → None ≡ option_map (λ h. h.store.seq) (find (is_barring line barrier) (drop first held))
+    → took (take count (filter (is_waiting_on line) held)) ≡ answer_among held line count
+takes line count first barrier held enough before barrier_is found =
+    sym (answers_by line count held enough
+    ∙ barred-none (find (is_barring line (youngest_barrier 0 (take count (filter (is_waiting_on line) held)))) held) (took (take count (filter (is_waiting_on line) held)))
+    (sym (found ∙ ap (option_map (λ (h : Held). h.store.seq)) (find-behind (is_barring line barrier) is_waiting (drained-bars-none line barrier) first held before)
+    ∙ ap (λ b. option_map (λ h. h.store.seq) (find (is_barring line b) held)) barrier_is)))
+
+-- a drain that takes its stores has so many
+pub took_enough : (held : List Held) (line count : ℕ) (a : DrainAnswer) → a ≡ answer_among held line count → is_taking a ≡ true → count ≤ length (filter (is_waiting_on line) held)
+took_enough held line count a answers taking =
+    elim (cases_lt (length (filter (is_waiting_on line) held)) count) [
+      | inl few ↦ (let less : nat_lt (length (filter (is_waiting_on line) held)) count ≡ true = lt-ltb (length (filter (is_waiting_on line) held)) count few in
+          let refused : a ≡ answer.Few (length (filter (is_waiting_on line) held)) = answers ∙ (rw less refl) in
+          absurd (false≢true (sym (ap is_taking refused) ∙ taking)))
+      | inr enough ↦ enough
+    ]
+
+pub took-if : (a : DrainAnswer) {P : Type 0} → (is_taking a ≡ true → P) → OnTook a P
+took-if (answer.Took mask bytes) gains = gains refl
+took-if (answer.Few held) gains = tt
+took-if (answer.Barred seq) gains = tt
+took-if answer.OutOfMemory gains = tt

@@ -1,4 +1,4 @@
-use Rattle.std.specs.Prelude.{ℕ, ◌+◌, ◌%◌, ◌&&◌, Bool, not, if◌then◌else◌, Option, Some, option_map, List, [], ◌∷◌, ◌++◌, length, take, drop, filter, find, replicate, nat_lt, bit_or}
+use Rattle.std.specs.Prelude.{ℕ, ◌+◌, ◌%◌, ◌&&◌, Bool, true, false, not, if◌then◌else◌, Option, Some, option_map, List, [], ◌∷◌, ◌++◌, length, take, drop, filter, find, replicate, nat_lt, bit_or}
 use Rattle.std.specs.Option.{option_map_or}
 use Rattle.dt_record.specs.declared.keys.Key.{Key}
 use Rattle.dt_record.specs.declared.accesses.OwnStore.{OwnStore}
@@ -61,6 +61,10 @@ answer_among held line count =
 -- the answer of a drain after some actions of its hart
 abbrev pub drain_answer : List Action → (line count : ℕ) → DrainAnswer
 drain_answer actions line count = answer_among (held_of actions) line count
+
+abbrev pub is_taking : DrainAnswer → Bool
+is_taking (answer.Took mask bytes) = true
+is_taking _ = false
 
 -- the drain took its stores
 abbrev pub OnTook : DrainAnswer → Type 0 → Type 0

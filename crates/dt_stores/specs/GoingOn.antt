@@ -1,7 +1,8 @@
-use Rattle.std.specs.Prelude.{ℕ, ◌≡◌, ◌≤◌, Bool, true, false, None, List, [], ◌∷◌, ◌++◌, length, filter, IsTrue}
+use Rattle.std.specs.Prelude.{ℕ, ◌≡◌, ◌≤◌, Bool, true, false, None, List, [], ◌∷◌, ◌++◌, length, filter, All, IfSome, IsTrue}
 use Rattle.dt_record.specs.declared.keys.Key.{Key}
 use Rattle.dt_record.specs.declared.accesses.OwnStore.{OwnStore}
-use Rattle.dt_record.specs.Actions.{Action, Stored, Drained, Fenced, Loaded, Atomic, held_of, ww_fences, wr_fences}
+use Rattle.dt_record.specs.Keys.{KeyBelow}
+use Rattle.dt_record.specs.Actions.{Action, Held, Stored, Drained, Fenced, Loaded, Atomic, held_of, ww_fences, wr_fences}
 use Rattle.dt_stores.specs.Kept.{Kept}
 use Rattle.dt_stores.specs.Standing.{StandsFor, stores_of}
 use Rattle.dt_stores.specs.Draining.{is_waiting_on}
@@ -16,6 +17,23 @@ is_quiet (Drained key line count) = false
 is_quiet (Fenced ww wr rr) = true
 is_quiet (Loaded ask) = true
 is_quiet (Atomic key addr width reads acquires) = true
+
+-- the drains that have taken some stores have keys below this one
+abbrev pub AreDrainedBelow : Key → List Held → Type 0
+AreDrainedBelow key held = All (λ h. IfSome h.drained (λ k. KeyBelow k key)) held
+
+-- an action that is a drain has a key below this one
+abbrev pub DrainsBelow : Key → Action → Type 0
+DrainsBelow key (Stored s) = Unit {0}
+DrainsBelow key (Drained own line count) = KeyBelow own key
+DrainsBelow key (Fenced ww wr rr) = Unit {0}
+DrainsBelow key (Loaded ask) = Unit {0}
+DrainsBelow key (Atomic own addr width reads acquires) = Unit {0}
+
+-- A key that is above those of all drains of a hart stays so, where it is above that of the next one.
+abbrev pub DrainsStayBelow : Type 0
+DrainsStayBelow = (kept : Kept) (actions : List Action) (action : Action) (key : Key) → StandsFor kept actions → DrainsBelow key action
+    → AreDrainedBelow key (held_of actions) → AreDrainedBelow key (held_of (actions ++ action ∷ []))
 
 -- A store comes last and waits; a drain takes the first so many that wait on its line, where so many
 -- do; any other action leaves them. The store and the drain ask that earlier drains took no more stores

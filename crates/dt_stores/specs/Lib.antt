@@ -1,7 +1,12 @@
 pub mod Draining
 pub mod GoingOn
+pub mod Indexed
 pub mod Kept
+pub mod Late
+pub mod Lines
 pub mod Oldest
 pub mod Places
 pub mod Plans
+pub mod Sound
 pub mod Standing
+pub mod Taking

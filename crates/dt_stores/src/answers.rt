@@ -1,3 +1,6 @@
+ghost use Rattle.std.specs.Prelude.{◌≡◌};
+ghost use Rattle.dt_stores.specs.Draining.{is_taking};
+
 use dt_record::Key;
 
 /// What a drain of a line did or would do.
@@ -13,6 +16,15 @@ pub enum DrainAnswer {
     Barred { seq: u32 },
     /// Memory was refused. Nothing is written.
     OutOfMemory,
+}
+
+impl DrainAnswer {
+    /// Whether the stores are written.
+    pub fn is_taking(&self) -> bool
+        ensures { result ≡ is_taking self.now }
+    {
+        matches!(self, DrainAnswer::Took { .. })
+    }
 }
 
 /// A byte that a load has from a store of its own hart.

@@ -1,165 +1,171 @@
-ghost use Rattle.std.specs.Prelude.{◌≡◌, ◌≤◌, ◌<◌, ◌++◌, IfOk, IfErr, Option, option_map, if◌then◌else◌, length, take, drop, filter, find, map, replicate};
-ghost use Rattle.dt_stores.specs.Draining.{is_waiting_on, is_barring, drained_by, put_over, youngest_barrier, merged_mask, merged_bytes, took, answer_among, OnTook, OnRefused};
-ghost use Rattle.dt_stores.specs.Plans.{IsPlan, TakesFirst};
+ghost use Rattle.std.specs.Prelude.{◌≡◌, ◌≤◌, ◌<◌, ◌↔◌, ℕ, All, IfSome, List, option_map, length, filter, find, replicate, slice_get, bit_or, IsTrue};
+ghost use Rattle.std.specs.List.{position_or_len, cons_option};
+ghost use Rattle.std.specs.Option.{option_map_or};
+ghost use Rattle.dt_record.specs.Actions.{Held, is_waiting};
+ghost use Rattle.dt_record.specs.Keys.{KeyBelow};
+ghost use Rattle.dt_stores.specs.Draining.{is_waiting_on, is_barring, put_over, youngest_barrier, merged_mask, merged_bytes, took, answer_among};
+ghost use Rattle.dt_stores.specs.Indexed.{AreAt, rises};
+ghost use Rattle.dt_stores.specs.Taking.{stores_at, taken_at, taken_one};
 
 use crate::answers::DrainAnswer;
 use crate::entries::Entry;
+use crate::searches::store_at;
 use dt_record::Key;
 
-/// What a drain is to do.
-enum Plan {
-    /// So few stores wait.
-    Few(u16),
-    /// The store with this seq has to drain first.
-    Barred(u32),
-    /// The stores of the line that wait before this place are taken.
-    Takes(usize),
-}
-
-/// The answer of a drain of so many stores of a line.
-pub fn answer_of(entries: &[Entry], line: u64, count: u16) -> DrainAnswer
+/// The answer of a drain of so many stores of a line, of which the waiting ones stand at these
+/// places, and `first` is the place of the oldest store that waits.
+pub fn answer_of(
+    entries: &[Entry],
+    first: usize,
+    waiting: &[u32],
+    line: u64,
+    count: u16,
+) -> DrainAnswer
+    requires waiting { AreAt entries.now waiting.now (filter (is_waiting_on line) entries.now) }
+    requires first { first ≡ position_or_len is_waiting entries.now }
+    requires within { first ≤ length entries.now }
+    requires barriers { (high : ℕ) × IsTrue (rises (λ h. h.barrier) 0 high entries.now) }
     ensures { result ≡ answer_among entries.now line count }
 {
-    match plan_of(entries, line, count) {
-        Plan::Few(held) => few(held),
-        Plan::Barred(seq) => DrainAnswer::Barred { seq },
-        Plan::Takes(end) => merged(&entries[..end], line),
+    if waiting.len() < usize::from(count) {
+        return DrainAnswer::Few {
+            held: waiting.len() as u32,
+        };
+    }
+    let taken = &waiting[..usize::from(count)];
+    match barring(&entries[first..], line, youngest_barrier(entries, taken)) {
+        Some(seq) => DrainAnswer::Barred { seq },
+        None => merged(entries, taken),
     }
 }
 
-/// Takes the oldest so many waiting stores of a line, unless it is refused.
-pub fn drain_of(entries: &mut [Entry], line: u64, count: u16, key: Key) -> DrainAnswer
-    ensures answer { result ≡ answer_among entries.old line count }
-    ensures took { OnTook result (TakesFirst line key count entries.old entries.new) }
-    ensures refused { OnRefused result (entries.new ≡ entries.old) }
+/// The barrier number of the youngest of these stores, or 0.
+fn youngest_barrier(entries: &[Entry], places: &[u32]) -> u32
+    ensures { (hs : List Held) → AreAt entries.now places.now hs → result ≡ youngest_barrier 0 hs }
 {
-    match plan_of(entries, line, count) {
-        Plan::Few(waiting) => few(waiting),
-        Plan::Barred(oldest) => DrainAnswer::Barred { seq: oldest },
-        Plan::Takes(end) => {
-            let answer = merged(&entries[..end], line);
-            take_before(entries, end, line, key);
-            answer
-        }
+    match places.last() {
+        None => 0,
+        Some(place) => barrier_at(entries, *place),
     }
 }
 
-fn few(held: u16) -> DrainAnswer
-    ensures { result ≡ DrainAnswer.Few held }
+fn barrier_at(entries: &[Entry], place: u32) -> u32
+    ensures { result ≡ option_map_or (λ h. h.barrier) (slice_get entries.now place) 0 }
 {
-    DrainAnswer::Few {
-        held: u32::from(held),
+    match store_at(entries, place) {
+        None => 0,
+        Some(e) => e.barrier(),
     }
 }
 
-/// The plan of a drain of so many stores of a line.
-fn plan_of(entries: &[Entry], line: u64, count: u16) -> Plan
-    ensures { IsPlan entries.now line count result }
-{
-    let end = match end_of(entries, line, count) {
-        Ok(end) => end,
-        Err(held) => return Plan::Few(held),
-    };
-    match barring(entries, line, youngest_taken(&entries[..end], line)) {
-        Some(seq) => Plan::Barred(seq),
-        None => Plan::Takes(end),
-    }
-}
-
-/// Before which place so many stores of a line wait, or how many wait in all where these are fewer.
-fn end_of(entries: &[Entry], line: u64, count: u16) -> Result<usize, u16>
-    ensures within { IfOk result (λ end. end ≤ length entries.now) }
-    ensures enough { IfOk result (λ end. length (filter (is_waiting_on line) (take end entries.now)) ≡ count) }
-    ensures few { IfErr result (λ held. held < count) }
-    ensures held { IfErr result (λ held. length (filter (is_waiting_on line) entries.now) ≡ held) }
-{
-    let mut held = 0;
-    for (i, e) in entries.iter().enumerate() {
-        if held == count {
-            return Ok(i);
-        }
-        if e.is_waiting_on(line) {
-            held += 1;
-        }
-    }
-    if held == count {
-        Ok(entries.len())
-    } else {
-        Err(held)
-    }
-}
-
-/// The barrier number of the youngest of these stores that waits on the line, or 0.
-fn youngest_taken(entries: &[Entry], line: u64) -> u32
-    ensures { result ≡ youngest_barrier 0 (filter (is_waiting_on line) entries.now) }
-{
-    let mut barrier = 0;
-    for e in entries {
-        if e.is_waiting_on(line) {
-            barrier = e.barrier();
-        }
-    }
-    barrier
-}
-
-/// The seq of the oldest store on another line that waits, with a lower barrier number.
+/// The seq of the oldest store on another line that waits, with a lower barrier number. The
+/// barrier numbers of these stores rise.
 fn barring(entries: &[Entry], line: u64, barrier: u32) -> Option<u32>
+    requires { (low high : ℕ) × IsTrue (rises (λ h. h.barrier) low high entries.now) }
     ensures { result ≡ option_map (λ h. h.store.seq) (find (is_barring line barrier) entries.now) }
 {
-    entries
-        .iter()
-        .find(|e| e.is_barring(line, barrier))
-        .map(|e| e.seq())
+    for e in entries {
+        if barrier <= e.barrier() {
+            return None;
+        }
+        if e.is_barring(line, barrier) {
+            return Some(e.seq());
+        }
+    }
+    None
 }
 
-/// What a drain writes that takes those of these stores that wait on the line.
-fn merged(entries: &[Entry], line: u64) -> DrainAnswer
-    ensures { result ≡ took (filter (is_waiting_on line) entries.now) }
+/// What a drain writes that takes these stores.
+fn merged(entries: &[Entry], places: &[u32]) -> DrainAnswer
+    ensures { result ≡ took (stores_at entries.now places.now) }
 {
     DrainAnswer::Took {
-        mask: mask_of(entries, line),
-        bytes: bytes_of(entries, line),
+        mask: mask_of(entries, places),
+        bytes: bytes_of(entries, places),
     }
 }
 
-fn mask_of(entries: &[Entry], line: u64) -> u64
-    ensures { result ≡ merged_mask 0 (filter (is_waiting_on line) entries.now) }
+fn mask_of(entries: &[Entry], places: &[u32]) -> u64
+    ensures { result ≡ merged_mask 0 (stores_at entries.now places.now) }
 {
     let mut mask = 0;
-    for e in entries {
-        if e.is_waiting_on(line) {
-            mask |= e.mask();
-        }
+    for place in places {
+        mask |= mask_at(entries, *place);
     }
     mask
 }
 
-fn bytes_of(entries: &[Entry], line: u64) -> [u8; 64]
-    ensures { result ≡ merged_bytes (replicate 64 0) (filter (is_waiting_on line) entries.now) }
+/// The mask of the store at a place, or 0.
+fn mask_at(entries: &[Entry], place: u32) -> u64
+    ensures { (mask : ℕ) (hs : List Held) → merged_mask mask (cons_option (slice_get entries.now place) hs) ≡ merged_mask (bit_or mask result) hs }
+{
+    match store_at(entries, place) {
+        None => 0,
+        Some(e) => e.mask(),
+    }
+}
+
+fn bytes_of(entries: &[Entry], places: &[u32]) -> [u8; 64]
+    ensures { result ≡ merged_bytes (replicate 64 0) (stores_at entries.now places.now) }
 {
     let mut bytes = [0; 64];
-    for e in entries {
-        put_waiting(&mut bytes, e, line);
+    for place in places {
+        put_at(&mut bytes, entries, *place);
     }
     bytes
 }
 
-fn put_waiting(bytes: &mut [u8], e: &Entry, line: u64)
+/// Puts the bytes of the store at a place over those of its line.
+fn put_at(bytes: &mut [u8], entries: &[Entry], place: u32)
     requires { length bytes.old ≡ 64 }
-    ensures { bytes.new ≡ (if is_waiting_on line e.now then put_over bytes.old e.now.store else bytes.old) }
+    ensures { bytes.new ≡ option_map_or (λ h. put_over bytes.old h.store) (slice_get entries.now place) bytes.old }
 {
-    if e.is_waiting_on(line) {
+    if let Some(e) = store_at(entries, place) {
         e.put_over(bytes);
     }
 }
 
-/// Takes the stores of the line that wait before this place.
-fn take_before(entries: &mut [Entry], end: usize, line: u64, key: Key)
-    requires { end ≤ length entries.old }
-    ensures { entries.new ≡ map (drained_by line key) (take end entries.old) ++ drop end entries.old }
+/// Whether the drains that have taken some of these stores have keys below this one.
+pub fn are_drained_before(entries: &[Entry], key: Key) -> bool
+    ensures { IsTrue result ↔ All (λ h. IfSome h.drained (λ k. KeyBelow k key)) entries.now }
 {
-    for i in 0..end {
-        let e = &mut entries[i];
-        e.drain(line, key);
+    for e in entries {
+        if !e.is_drained_before(key) {
+            return false;
+        }
+    }
+    true
+}
+
+/// The place of the oldest store that waits, where none before this place does.
+pub fn first_waiting(entries: &[Entry], from: usize) -> usize
+    requires { from ≤ position_or_len is_waiting entries.now }
+    ensures { result ≡ position_or_len is_waiting entries.now }
+{
+    let mut first = from;
+    while first < entries.len() {
+        if entries[first].is_waiting() {
+            return first;
+        }
+        first += 1;
+    }
+    first
+}
+
+/// Notes the drain that takes the stores at these places.
+pub fn take_all(entries: &mut [Entry], places: &[u32], key: Key)
+    ensures { entries.new ≡ taken_at key places.now entries.old }
+{
+    for place in places {
+        take_at(entries, *place as usize, key);
+    }
+}
+
+fn take_at(entries: &mut [Entry], place: usize, key: Key)
+    ensures { entries.new ≡ taken_one key place entries.old }
+{
+    if place < entries.len() {
+        let e = &mut entries[place];
+        e.take(key);
     }
 }

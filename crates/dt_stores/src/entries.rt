@@ -1,8 +1,9 @@
-ghost use Rattle.std.specs.Prelude.{◌≡◌, ◌+◌, ◌≤◌, ◌%◌, None, Some, IsTrue, if◌then◌else◌, length, take, drop, ◌++◌};
+ghost use Rattle.std.specs.Prelude.{◌≡◌, ◌+◌, ◌≤◌, ◌%◌, ◌↔◌, None, Some, IfSome, IsTrue, if◌then◌else◌, length, take, drop, ◌++◌};
 ghost use Rattle.dt_record.specs.Actions.{Held, store_covers, is_on, is_waiting, is_undrained};
+ghost use Rattle.dt_record.specs.Keys.{KeyBelow};
 ghost use Rattle.dt_record.specs.LoadSources.{stored_byte};
 ghost use Rattle.dt_record.specs.Writes.{width_mask};
-ghost use Rattle.dt_stores.specs.Draining.{is_waiting_on, is_barring, drained_by, put_over, forward_of};
+ghost use Rattle.dt_stores.specs.Draining.{is_barring, put_over, forward_of};
 ghost use Rattle.dt_stores.specs.Oldest.{is_asked};
 ghost use Rattle.dt_stores.specs.Places.{is_store_place};
 
@@ -65,22 +66,26 @@ impl Entry {
         self.store.addr - self.store.addr % 64 == line
     }
 
-    fn is_waiting(&self) -> bool
+    pub fn is_waiting(&self) -> bool
         ensures { result ≡ is_waiting self.now }
     {
         self.drained.is_none()
-    }
-
-    pub fn is_waiting_on(&self, line: u64) -> bool
-        ensures { result ≡ is_waiting_on line self.now }
-    {
-        self.is_waiting() && self.is_on(line)
     }
 
     pub fn is_barring(&self, line: u64, barrier: u32) -> bool
         ensures { result ≡ is_barring line barrier self.now }
     {
         self.is_waiting() && !self.is_on(line) && self.barrier < barrier
+    }
+
+    /// Whether the drain that has taken the store, if any, has a key below this one.
+    pub fn is_drained_before(&self, key: Key) -> bool
+        ensures { IsTrue result ↔ IfSome self.now.drained (λ k. KeyBelow k key) }
+    {
+        match self.drained {
+            None => true,
+            Some(drained) => drained < key,
+        }
     }
 
     /// Whether no drain with a stamp of at most this cycle has taken the store.
@@ -158,13 +163,11 @@ impl Entry {
         put(bytes, place, &low[..usize::from(self.store.width)]);
     }
 
-    /// Takes the store, where it waits on this line.
-    pub fn drain(&mut self, line: u64, key: Key)
-        ensures { self.new ≡ drained_by line key self.old }
+    /// Notes the drain that takes the store.
+    pub fn take(&mut self, key: Key)
+        ensures { self.new ≡ record self.old { drained = Some key } }
     {
-        if self.is_waiting_on(line) {
-            self.drained = Some(key);
-        }
+        self.drained = Some(key);
     }
 }
 

@@ -2,7 +2,7 @@ ghost use Rattle.std.specs.Prelude.{ℕ, Bool, [], ◌∷◌};
 ghost use Rattle.dt_record.specs.declared.keys.Key.{Key};
 ghost use Rattle.dt_record.specs.declared.accesses.LoadAsk.{LoadAsk};
 ghost use Rattle.dt_record.specs.Actions.{Loaded, Atomic};
-ghost use Rattle.dt_stores.specs.GoingOn.{StoresGoOn};
+ghost use Rattle.dt_stores.specs.GoingOn.{DrainsStayBelow, StoresGoOn};
 ghost use Rattle.dt_stores.specs.Kept.{Kept};
 ghost use Rattle.dt_stores.specs.Standing.{GainsAction};
 
@@ -20,4 +20,9 @@ pub fn atomics_keep_stores()
 /// leaves the stores of a hart.
 pub fn stores_go_on()
     ensures { StoresGoOn }
+{}
+
+/// A law: a key above those of all drains of a hart stays so, where it is above that of the next.
+pub fn drains_stay_below()
+    ensures { DrainsStayBelow }
 {}

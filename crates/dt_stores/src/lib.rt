@@ -1,13 +1,16 @@
 //! The store buffer of one hart: its stores to RAM in their order, the fences between them, and
 //! which drain has taken which. The definitions that the contracts cite stand in `specs/` here and
-//! in `dt_record`. This is the plain body: one list of all stores, searched from an end.
+//! in `dt_record`. All stores stay in one list. Their places are listed by line, and the first that
+//! waits is kept, so that no search passes the stores that are drained.
 #![tactic(auto)]
 
 mod answers;
 mod buffer;
 mod drains;
 mod entries;
+mod late;
 mod laws;
+mod lines;
 mod searches;
 #[cfg(test)]
 mod tests;
@@ -15,4 +18,4 @@ mod tests;
 pub use answers::{DrainAnswer, Forward, Which};
 pub use buffer::Stores;
 pub use dt_record::OwnStore;
-pub use laws::{atomics_keep_stores, loads_keep_stores, stores_go_on};
+pub use laws::{atomics_keep_stores, drains_stay_below, loads_keep_stores, stores_go_on};

@@ -1,38 +1,86 @@
-ghost use Rattle.std.specs.Prelude.{◌≡◌, ◌&&◌, Option, option_map, find, reverse};
-ghost use Rattle.std.specs.Option.{option_copied};
-ghost use Rattle.dt_record.specs.Actions.{store_covers, is_undrained};
+ghost use Rattle.std.specs.Prelude.{◌≡◌, ℕ, false, not, if◌then◌else◌, Some, None, List, option_map, find, reverse, slice_get, IsTrue};
+ghost use Rattle.std.specs.List.{take_while, position_or_len};
+ghost use Rattle.std.specs.Option.{option_copied, option_map_or, option_and_then};
+ghost use Rattle.dt_record.specs.Actions.{Held, store_covers, is_undrained};
 ghost use Rattle.dt_stores.specs.Draining.{forward_of};
 ghost use Rattle.dt_stores.specs.Oldest.{is_asked};
+ghost use Rattle.dt_stores.specs.Indexed.{AreAt, splits};
 
 use crate::answers::{Forward, Which};
 use crate::entries::Entry;
 
-/// What a load has for a byte from the youngest store that covers it and that no drain by the cycle
-/// has taken.
-pub fn forward_from(entries: &[Entry], addr: u64, at: u64) -> Option<Forward>
-    ensures { result ≡ option_map (forward_of addr) (find (λ h. is_undrained at h && store_covers addr h.store) (reverse entries.now)) }
+/// The store at a place.
+pub fn store_at(entries: &[Entry], place: u32) -> Option<&Entry>
+    ensures { option_copied result ≡ slice_get entries.now place }
 {
-    match youngest_covering(entries, addr, at) {
+    entries.get(place as usize)
+}
+
+/// One of the stores at these places.
+fn store_among<'a>(entries: &'a [Entry], places: &[u32], i: usize) -> Option<&'a Entry>
+    ensures { (hs : List Held) → AreAt entries.now places.now hs → option_copied result ≡ slice_get hs i }
+{
+    match place_at(places, i) {
         None => None,
-        Some(e) => Some(e.forward(addr)),
+        Some(place) => store_at(entries, place),
     }
 }
 
-fn youngest_covering(entries: &[Entry], addr: u64, at: u64) -> Option<&Entry>
-    ensures { option_copied result ≡ find (λ h. is_undrained at h && store_covers addr h.store) (reverse entries.now) }
+fn place_at(places: &[u32], i: usize) -> Option<u32>
+    ensures { result ≡ slice_get places.now i }
 {
-    entries
-        .iter()
-        .rev()
-        .find(|e| e.is_undrained(at) && e.covers(addr))
+    places.get(i).copied()
 }
 
-/// The seq of the oldest store that is asked about and that no drain by the cycle has taken.
-pub fn oldest_from(entries: &[Entry], ww: u32, wr: u32, which: Which, at: u64) -> Option<u32>
-    ensures { result ≡ option_map (λ h. h.store.seq) (find (λ h. is_undrained at h && is_asked ww wr which h) entries.now) }
+/// What a load has for a byte from the youngest of these stores that covers it, where no drain by
+/// the cycle has taken that.
+pub fn forward_from(entries: &[Entry], places: &[u32], addr: u64, at: u64) -> Option<Forward>
+    ensures { (hs : List Held) → AreAt entries.now places.now hs → result ≡ option_map (forward_of addr) (find (λ h. store_covers addr h.store) (take_while (is_undrained at) (reverse hs))) }
 {
-    entries
-        .iter()
-        .find(|e| e.is_undrained(at) && e.is_asked(ww, wr, which))
-        .map(|e| e.seq())
+    for i in 0..places.len() {
+        let e = store_among(entries, places, places.len() - 1 - i)?;
+        if !e.is_undrained(at) {
+            return None;
+        }
+        if e.covers(addr) {
+            return Some(e.forward(addr));
+        }
+    }
+    None
+}
+
+/// The seq of the oldest of these stores, of which drains take the oldest first, that no drain by
+/// the cycle has taken.
+pub fn oldest_from(entries: &[Entry], places: &[u32], at: u64) -> Option<u32>
+    ensures { (hs : List Held) (n : ℕ) → AreAt entries.now places.now hs → IsTrue (splits (is_undrained at) n hs) → result ≡ option_map (λ h. h.store.seq) (find (is_undrained at) hs) }
+{
+    match store_among(entries, places, first_undrained(entries, places, at)) {
+        None => None,
+        Some(e) => Some(e.seq()),
+    }
+}
+
+fn first_undrained(entries: &[Entry], places: &[u32], at: u64) -> usize
+    ensures { (hs : List Held) (n : ℕ) → AreAt entries.now places.now hs → IsTrue (splits (is_undrained at) n hs) → result ≡ position_or_len (is_undrained at) hs }
+{
+    places.partition_point(|place| is_drained_at(entries, *place, at))
+}
+
+fn is_drained_at(entries: &[Entry], place: u32, at: u64) -> bool
+    ensures { result ≡ option_map_or (λ h. not (is_undrained at h)) (slice_get entries.now place) false }
+{
+    match store_at(entries, place) {
+        Some(e) => !e.is_undrained(at),
+        None => false,
+    }
+}
+
+/// The seq of the store at a place, where it is asked about.
+pub fn asked_at(entries: &[Entry], place: usize, ww: u32, wr: u32, which: Which) -> Option<u32>
+    ensures { result ≡ option_and_then (λ h. if is_asked ww wr which h then Some h.store.seq else None) (slice_get entries.now place) }
+{
+    match entries.get(place) {
+        Some(e) if e.is_asked(ww, wr, which) => Some(e.seq()),
+        _ => None,
+    }
 }

@@ -1,6 +1,6 @@
 use crate::{
-    DrainAnswer, Forward, OwnStore, Stores, Which, atomics_keep_stores, loads_keep_stores,
-    stores_go_on,
+    DrainAnswer, Forward, OwnStore, Stores, Which, atomics_keep_stores, drains_stay_below,
+    loads_keep_stores, stores_go_on,
 };
 use dt_record::Key;
 use std::test::Fail;
@@ -65,15 +65,33 @@ fn forward(seq: u32, byte: u8, drained: Option<Key>) -> Option<Forward> {
     Some(Forward { seq, byte, drained })
 }
 
+/// A drain, where its key is above those before it.
+fn drain(stores: &mut Stores, key: Key, line: u64, count: u16) -> Option<DrainAnswer> {
+    if stores.can_drain(key) {
+        Some(stores.drain(key, line, count))
+    } else {
+        None
+    }
+}
+
 #[test]
 fn drains_singly_merged_and_never_too_many(rt: HostRuntime) -> Result<(), Fail> {
     let mut stores = Stores::new(rt.alloc());
     stores.commit(DOUBLE)?;
     stores.commit(UPPER_WORD)?;
     assert_eq!(rt; stores.would_drain(LINE, 2), took(0xff, 0x11, 0x22));
-    assert_eq!(rt; stores.drain(key(6), LINE, 3), DrainAnswer::Few { held: 2 });
-    assert_eq!(rt; stores.drain(key(6), LINE, 1), took(0xff, 0x11, 0x11));
-    assert_eq!(rt; stores.drain(key(7), LINE, 1), took(0xf0, 0, 0x22));
+    assert_eq!(rt;
+        drain(&mut stores, key(6), LINE, 3),
+        Some(DrainAnswer::Few { held: 2 })
+    );
+    assert_eq!(rt;
+        drain(&mut stores, key(6), LINE, 1),
+        Some(took(0xff, 0x11, 0x11))
+    );
+    assert_eq!(rt;
+        drain(&mut stores, key(7), LINE, 1),
+        Some(took(0xf0, 0, 0x22))
+    );
     assert_eq!(rt; stores.would_drain(LINE, 1), DrainAnswer::Few { held: 0 });
     Ok(())
 }
@@ -83,7 +101,10 @@ fn drains_two_at_once(rt: HostRuntime) -> Result<(), Fail> {
     let mut stores = Stores::new(rt.alloc());
     stores.commit(DOUBLE)?;
     stores.commit(UPPER_WORD)?;
-    assert_eq!(rt; stores.drain(key(6), LINE, 2), took(0xff, 0x11, 0x22));
+    assert_eq!(rt;
+        drain(&mut stores, key(6), LINE, 2),
+        Some(took(0xff, 0x11, 0x22))
+    );
     assert_eq!(rt; stores.oldest(Which::All, 6), None);
     Ok(())
 }
@@ -97,7 +118,7 @@ fn forwards_the_youngest_that_no_drain_has_taken_yet(rt: HostRuntime) -> Result<
     assert_eq!(rt; stores.forward(LINE + 1, 5), forward(3, 0x99, None));
     assert_eq!(rt; stores.forward(LINE + 3, 5), forward(1, 4, None));
     assert_eq!(rt; stores.forward(LINE + 4, 5), None);
-    stores.drain(key(10), LINE, 1);
+    assert_ne!(rt; drain(&mut stores, key(10), LINE, 1), None);
     assert_eq!(rt; stores.forward(LINE, 9), forward(1, 1, Some(key(10))));
     assert_eq!(rt; stores.forward(LINE, 10), None);
     assert_eq!(rt; stores.forward(LINE + 1, 10), forward(3, 0x99, None));
@@ -111,22 +132,25 @@ fn a_fence_bars_the_younger_line(rt: HostRuntime) -> Result<(), Fail> {
     stores.fence(true, false);
     stores.commit(NEXT)?;
     assert_eq!(rt;
-        stores.drain(key(6), NEXT_LINE, 2),
-        DrainAnswer::Few { held: 1 }
+        drain(&mut stores, key(6), NEXT_LINE, 2),
+        Some(DrainAnswer::Few { held: 1 })
     );
     assert_eq!(rt;
-        stores.drain(key(6), NEXT_LINE, 1),
-        DrainAnswer::Barred { seq: 2 }
+        drain(&mut stores, key(6), NEXT_LINE, 1),
+        Some(DrainAnswer::Barred { seq: 2 })
     );
     assert_eq!(rt; stores.oldest(Which::BeforeWw, 6), Some(2));
     assert_eq!(rt; stores.oldest(Which::BeforeWr, 6), None);
-    assert_eq!(rt; stores.drain(key(6), LINE, 1), took(0xff, 0x11, 0x11));
+    assert_eq!(rt;
+        drain(&mut stores, key(6), LINE, 1),
+        Some(took(0xff, 0x11, 0x11))
+    );
     assert_eq!(rt; stores.oldest(Which::All, 5), Some(2));
     assert_eq!(rt; stores.oldest(Which::All, 6), Some(5));
     assert_eq!(rt; stores.oldest(Which::Line(LINE), 6), None);
     assert_ne!(rt;
-        stores.drain(key(7), NEXT_LINE, 1),
-        DrainAnswer::OutOfMemory
+        drain(&mut stores, key(7), NEXT_LINE, 1),
+        Some(DrainAnswer::OutOfMemory)
     );
     Ok(())
 }
@@ -136,4 +160,5 @@ fn laws_are_called() {
     loads_keep_stores();
     atomics_keep_stores();
     stores_go_on();
+    drains_stay_below();
 }

@@ -1,3 +1,5 @@
-mod Later
+mod Numbers
+mod Soundness
 mod Spans
 mod Taking
+mod Undoing

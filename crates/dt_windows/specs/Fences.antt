@@ -30,6 +30,11 @@ covers_page va (FencesPages None all) = all
 covers_page va (FencesPages (Some fenced) all) = all || (fenced / 4096 == va / 4096)
 covers_page va plan = false
 
+-- SFENCE.VMA of all pages (Volume II, section 4.2.1)
+abbrev pub covers_all : Planned → Bool
+covers_all (FencesPages va all) = all
+covers_all plan = false
+
 -- a fence of either kind, whatever it covers
 abbrev pub is_fence : Planned → Bool
 is_fence FenceI = true

@@ -19,7 +19,7 @@ returns-after-st-clause-finds c = λ actions moments known.
     let va = c.in-NeedsAtomic.va in
     let op = c.in-NeedsAtomic.op in
     let older = c.in_ok-older-in-NeedsAtomic.older in
-    let there = ap (λ (a : Access). address_check m.image m.writes (window_kept h c.args.last va) (walk_args h.arch a va) true c.args.said.paddr) c.access_of.ensures in
+    let there = ap (λ (a : Access). address_check m.image m.writes (window_kept h m.writes c.args.last va) (walk_args h.arch a va) true c.args.said.paddr) c.access_of.ensures in
     let allowed = c.in_ok-older-in-NeedsAtomic.ensures.value ∙ there in
     let p : (c.args.st.stale || older) ≡ c.if-st.at_address =
     elim c.if-st.branch [

@@ -7,6 +7,8 @@ returns-in-Ok-take-clause-judged c = λ s meets.
     let checks = c.first_writes_decide_checks.ensures in
     let laws : Laws = record {
       known = c.known_at_next.ensures;
+      fences = c.fences_are_earlier.ensures;
+      last = c.last_fences_are_below.ensures;
       checks = record {
         starts = checks.starts;
         addresses = checks.addresses;
@@ -23,6 +25,8 @@ returns-in-Ok-take-clause-goes_on c = λ s meets.
     let checks = c.first_writes_decide_checks.ensures in
     let laws : Laws = record {
       known = c.known_at_next.ensures;
+      fences = c.fences_are_earlier.ensures;
+      last = c.last_fences_are_below.ensures;
       checks = record {
         starts = checks.starts;
         addresses = checks.addresses;
@@ -31,8 +35,8 @@ returns-in-Ok-take-clause-goes_on c = λ s meets.
         refills = c.first_writes_decide_refills.ensures;
       };
     } in
-    let judged = was_judged laws c.args.h.now c.args.m.now s c.args.event.now meets c.seq.result c.seen_by-seen.result c.in-Ok.passed.sources c.requires.lawful c.seq.ensures
-    c.seen_by-seen.ensures.value c.in-Ok.ensures.found in
+    let judged = was_judged laws c.args.h.now c.args.m.now s c.args.event.now meets c.seq.result c.in-Ok.passed.sources c.requires.lawful c.seq.ensures
+    c.in-Ok.ensures.found in
     record {
       moment = judged.0;
       is_read = judged.1.is_read;
@@ -44,6 +48,8 @@ returns-in-Err-clause-judged c = λ s meets.
     let checks = c.first_writes_decide_checks.ensures in
     let laws : Laws = record {
       known = c.known_at_next.ensures;
+      fences = c.fences_are_earlier.ensures;
+      last = c.last_fences_are_below.ensures;
       checks = record {
         starts = checks.starts;
         addresses = checks.addresses;

@@ -1,6 +1,6 @@
 use Rattle.std.proofs.Common.{sym, ◌∙◌}
 use Rattle.dt_record.specs.Keys.{key_of}
-use Rattle.dt_hart.proofs.AccessLaws.{load_follows, atomic_follows, drain_follows}
+use Rattle.dt_hart.proofs.AccessLaws.{load_follows, atomic_follows, drain_follows, store_counts}
 use Rattle.dt_hart.proofs.accesses.Accesses.take.Goals as goal
 
 pub returns-in-Load-clause-follows : goal.returns-in-Load-clause-follows
@@ -19,3 +19,7 @@ pub returns-in-Drain-clause-follows : goal.returns-in-Drain-clause-follows
 returns-in-Drain-clause-follows c =
     drain_follows c.take_drain.result c.args.self.now c.take_drain.new.self (key_of c.args.seq c.args.event.now) c.args.event.now.body c.args.sources c.in-Drain.line c.in-Drain.mask c.in-Drain.count c.in-Drain.bytes
     c.in-Drain.is c.take_drain.ensures.stores c.take_drain.ensures.noted c.take_drain.ensures.floor c.take_drain.ensures.last_read
+
+pub returns-in-Store-clause-counted : goal.returns-in-Store-clause-counted
+returns-in-Store-clause-counted c =
+    store_counts c.drains_stay_below.ensures c.commit.result c.args.self.now.stores c.commit.new.self (key_of c.args.seq c.args.event.now) _ c.commit.ensures.ok

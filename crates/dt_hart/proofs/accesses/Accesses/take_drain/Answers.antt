@@ -8,7 +8,7 @@ use Rattle.dt_hart.proofs.accesses.Accesses.take_drain.Goals as goal
 pub returns : goal.returns
 returns c = record {
   stores = drain_gains c.drain.result c.args.self.now.stores c.drain.new.self c.args.key c.args.line c.args.count c.in_default.not-OutOfMemory c.drain.ensures.answer c.drain.ensures.took;
-  counted = drain_counts c.drain.result c.args.self.now.stores c.drain.new.self c.args.key c.args.line c.args.count c.drain.ensures.took c.drain.ensures.refused;
+  counted = drain_counts c.drains_stay_below.ensures c.drain.result c.args.self.now.stores c.drain.new.self c.args.key c.args.line c.args.count c.drain.ensures.took c.drain.ensures.refused;
   noted = λ byte.
       c.note.ensures.noted byte
       ∙ ap (λ (o : Option Key). greater (newest_of c.reserve.new.self byte) o) (noted_same c.args.line c.args.mask c.args.key byte)

@@ -1,0 +1,10 @@
+use Rattle.std.proofs.Common.{◌≡◌, ◌+◌, drop}
+use Rattle.std.specs.VecDeque.{deque_len, deque_capacity}
+use Rattle.dt_local.proofs.words.forget_steps.Given as goal
+
+abbrev pub invariant-loop : goal.invariant-loop
+invariant-loop l = record {
+  kept : l.kept.items ≡ drop l.counter l.initial.kept.items;
+  len : deque_len l.kept + l.counter ≡ deque_len l.initial.kept;
+  capacity : deque_capacity l.kept ≡ deque_capacity l.initial.kept;
+}

@@ -1,0 +1,27 @@
+use Rattle.std.proofs.Common.{◌≡◌, Bool, true, false, cond, Option, Some, None, IsSome, ◌∙◌, refl, sym, subst, ap}
+use Rattle.std.specs.Ordering.{nat_cmp}
+use Rattle.std.specs.Option.{is_some}
+use Rattle.std.specs.BTreeMap.{is_at}
+use Rattle.std.specs.Map.{lookup}
+use Rattle.dt_record.specs.declared.keys.Key.{Key}
+use Rattle.dt_windows.specs.Pages.{Entries, IsWidened}
+use Rattle.dt_windows.proofs.Undoing.{at, IsWidened-insert}
+use Rattle.dt_windows.proofs.pages.add_slot.Goals as goal
+
+some_stays : (b : Bool) (slot : Option Key) (o : Option (Option Key)) → IsSome o → IsSome (cond b (Some slot) o)
+some_stays true slot o some = refl
+some_stays false slot o some = some
+
+none_from_is_some : (o : Option (Option Key)) → is_some o ≡ false → o ≡ None
+none_from_is_some None none = refl
+none_from_is_some (Some slot) none = cc
+
+pub returns-in_ok-insert-clause-widened : goal.returns-in_ok-insert-clause-widened
+returns-in_ok-insert-clause-widened c =
+    let old : Entries = c.args.slots.now.entries in
+    let made = c.in_ok-insert.ensures.entries in
+    let absent = none_from_is_some _ (sym c.contains_key.ensures ∙ c.if-not-contains_key.true) in
+    subst (λ (fs : Entries). IsWidened old fs) (sym made)
+    (IsWidened-insert c.args.page old absent
+    (λ other some. subst (λ (o : Option (Option Key)). IsSome o) (sym (c.in_ok-insert.ensures.updates.0 other) ∙ ap (lookup (at other)) made)
+    (some_stays (is_at (nat_cmp c.args.page) other) None _ some)))

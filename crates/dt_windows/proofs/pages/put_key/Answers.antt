@@ -1,0 +1,8 @@
+use Rattle.std.proofs.Common.{◌∙◌, ap, sym}
+use Rattle.dt_windows.proofs.Undoing.{set_value_none}
+use Rattle.dt_windows.proofs.pages.put_key.Goals as goal
+
+pub returns-in_default-clause-entries : goal.returns-in_default-clause-entries
+returns-in_default-clause-entries c =
+    ap (λ slots. slots.entries) c.get_mut.follows.holds-at-none
+    ∙ sym (set_value_none c.args.page c.args.slots.now.entries c.args.key (sym c.in_default.ensures.value))
