@@ -176,38 +176,3 @@ fn stores_of_m_are_translated_for_u(rt: HostRuntime) {
     let fetch = walk_args(&a, Access::Fetch, 0x1234);
     assert_eq!(rt; (fetch.on, fetch.mode), (false, 3));
 }
-
-#[test]
-fn untranslated_addresses(rt: HostRuntime) -> Result<(), Fail> {
-    let m = memory(rt.alloc(), 0)?;
-    let a = reset(0);
-    for (va, paddr, ram_only, expected) in [
-        (0x8000_0100, 0x8000_0100, true, Ok(false)),
-        (0x1000_0000, 0x1000_0000, false, Ok(false)),
-        (
-            0x8000_0100,
-            0x8000_0108,
-            true,
-            Err((0x8000_0100, 0x8000_0108)),
-        ),
-        (
-            0x1000_0000,
-            0x1000_0000,
-            true,
-            Err((NO_NUMBER, 0x1000_0000)),
-        ),
-    ] {
-        let args = walk_args(&a, Access::Load, va);
-        let expected = expected.map_err(|(expected, found)| Misfit {
-            reason: Reason::Address,
-            expected,
-            found,
-        });
-        assert_eq!(rt;
-            address(&m, FIRST, args, ram_only, paddr),
-            expected,
-            "{va:x}"
-        );
-    }
-    Ok(())
-}

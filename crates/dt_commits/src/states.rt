@@ -1,10 +1,8 @@
 ghost use Rattle.std.specs.Prelude.{◌≡◌, ◌==◌, length, Ok};
 ghost use Rattle.dt_record.specs.declared.reasons.Reason.TheVariants.{State};
-ghost use Rattle.dt_csr.specs.Kept.{values_of};
 ghost use Rattle.dt_rules.specs.Checks.{misfit, check, first_difference};
 ghost use Rattle.dt_commits.specs.States.{registers_check, csrs_check};
 
-use dt_csr::Csrs;
 use dt_rules::{Misfit, Reason};
 use dt_step::Arch;
 
@@ -22,7 +20,7 @@ pub fn shows_registers(a: &Arch, pc: u64, x: &[u64; 31]) -> Result<(), Misfit>
 pub fn shows_csrs(a: &Arch, mode: u8, v: &[u64; 17]) -> Result<(), Misfit>
     ensures { result ≡ csrs_check a.now mode v.now }
 {
-    are_shown(u64::from(a.mode), &kept_values(&a.csrs), u64::from(mode), v)
+    are_shown(u64::from(a.mode), &a.csrs.values(), u64::from(mode), v)
 }
 
 /// Whether a first number and those after it are the ones that are due.
@@ -56,28 +54,4 @@ fn differs(due: u64, found: u64) -> Misfit
         expected: due,
         found,
     }
-}
-
-fn kept_values(c: &Csrs) -> [u64; 17]
-    ensures { result ≡ values_of c.now }
-{
-    [
-        c.mstatus,
-        c.medeleg,
-        c.mideleg,
-        c.mie,
-        c.mtvec,
-        c.mcounteren,
-        c.mscratch,
-        c.mepc,
-        c.mcause,
-        c.mtval,
-        c.stvec,
-        c.scounteren,
-        c.sscratch,
-        c.sepc,
-        c.scause,
-        c.stval,
-        c.satp,
-    ]
 }

@@ -3,7 +3,7 @@ ghost use Rattle.std.proofs.Common.{ap, refl};
 ghost use Rattle.dt_versions.specs.History.{writes_until};
 
 use crate::{CoreStep, Judgement, Notes, World, step};
-use dt_record::{Body, Key, Note, Record, Retire, Write, lawful, write_of};
+use dt_record::{Body, Note, Record, Retire, Write, lawful, write_of};
 use std::alloc::{AllocError, Global};
 use std::test::Fail;
 
@@ -91,21 +91,11 @@ const FAILURE_IN_THE_MIDDLE: [Record; 11] = records![
     (4, 1, Body::Beat)
 ];
 
-/// No write, so that cycle 0 alone passes.
-const NO_WRITES: [Record; 5] = records![
-    (0, 0, Body::Beat),
-    (1, 0, Body::Beat),
-    (2, 0, Body::Beat),
-    (0, 1, Body::Beat),
-    (3, 1, Body::Beat)
-];
-
 #[derive(Clone, Copy, Debug)]
 enum Run {
     TwoBeats,
     ThreeHarts,
     FailureInTheMiddle,
-    NoWrites,
 }
 
 /// The runs of the schedules, and how many records of each hart are judged in the end: up to its
@@ -120,7 +110,6 @@ fn file_of(run: Run) -> &'static [Record] {
         Run::TwoBeats => &TWO_BEATS,
         Run::ThreeHarts => &THREE_HARTS,
         Run::FailureInTheMiddle => &FAILURE_IN_THE_MIDDLE,
-        Run::NoWrites => &NO_WRITES,
     }
 }
 
@@ -131,7 +120,6 @@ fn start(alloc: Global, run: Run) -> Result<World<Counted>, AllocError> {
         Run::FailureInTheMiddle => {
             World::start(alloc, 2, 2, Vec::from_slice(alloc, &FAILURE_IN_THE_MIDDLE)?)
         }
-        Run::NoWrites => World::start(alloc, 2, 2, Vec::from_slice(alloc, &NO_WRITES)?),
     }
 }
 
@@ -189,63 +177,6 @@ fn two_beats_of_one_cycle_wait_for_the_end(rt: HostRuntime) -> Result<(), Fail> 
     step(&mut world, CoreStep::Look { worker: 0 })?;
     step(&mut world, CoreStep::Judge { hart: 0 })?;
     assert_eq!(rt; counts(&world), [Some(1), Some(0), None]);
-    Ok(())
-}
-
-/// The worker looks, and its hart's next record is judged where it may be.
-fn look_and_judge(world: &mut World<Counted>, worker: u8, hart: u8) -> Result<(), AllocError> {
-    step(world, CoreStep::Look { worker })?;
-    step(world, CoreStep::Judge { hart })
-}
-
-const fn failure_at(stamp: u64, seq: u32) -> Note {
-    Note::Failure {
-        key: Key {
-            stamp,
-            hart: 0,
-            seq,
-        },
-    }
-}
-
-/// Hart 0 fails at its second record, in cycle 1. The last record of hart 1 waits for the end of
-/// hart 0, which worker 0 tells only with notes that are true: no cut behind the failure, no failure
-/// at another record, no note of the other worker's hart, and no mark.
-#[test]
-fn only_true_cuts_and_failures_are_announced(rt: HostRuntime) -> Result<(), Fail> {
-    let alloc = rt.alloc();
-    let mut world = start(alloc, Run::NoWrites)?;
-    for _ in 0..5 {
-        step(&mut world, CoreStep::Feed)?;
-    }
-    for _ in 0..3 {
-        step(&mut world, CoreStep::Take { hart: 0 })?;
-        step(&mut world, CoreStep::Take { hart: 1 })?;
-    }
-    step(&mut world, announce(alloc, 0))?;
-    step(&mut world, announce(alloc, 1))?;
-    look_and_judge(&mut world, 0, 0)?;
-    look_and_judge(&mut world, 0, 0)?;
-    look_and_judge(&mut world, 1, 1)?;
-    step(&mut world, CoreStep::Feed)?;
-    step(&mut world, announce(alloc, 1))?;
-    for untrue in [
-        Note::Cut { hart: 0, cut: 2 },
-        failure_at(0, 0),
-        failure_at(1, 0),
-        failure_at(2, 2),
-        Note::Cut { hart: 1, cut: 0 },
-        Note::Mark { hart: 0, stamp: 9 },
-    ] {
-        let notes = [Note::Cut { hart: 0, cut: 1 }, untrue];
-        step(&mut world, announce_with(alloc, 0, &notes)?)?;
-        look_and_judge(&mut world, 1, 1)?;
-        assert_eq!(rt; counts(&world), [Some(2), Some(1), None]);
-    }
-    let notes = [Note::Cut { hart: 0, cut: 1 }, failure_at(1, 1)];
-    step(&mut world, announce_with(alloc, 0, &notes)?)?;
-    look_and_judge(&mut world, 1, 1)?;
-    assert_eq!(rt; counts(&world), [Some(2), Some(2), None]);
     Ok(())
 }
 

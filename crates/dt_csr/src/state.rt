@@ -35,7 +35,7 @@ pub struct Csrs {
 impl Csrs {
     ghost use Rattle.dt_csr.specs.Registers.{reset_csrs};
     ghost use Rattle.dt_csr.specs.Access.{floor_of, with_floor};
-    ghost use Rattle.dt_csr.specs.Kept.{IsKept};
+    ghost use Rattle.dt_csr.specs.Kept.{IsKept, values_of};
 
     /// The registers after a reset. They are not wide.
     pub fn reset() -> Csrs
@@ -65,6 +65,33 @@ impl Csrs {
             time_floor: 0,
             wide: false,
         }
+    }
+
+    /// The 17 registers that are kept, in the order of a record of them: mstatus, medeleg, mideleg, mie,
+    /// mtvec, mcounteren, mscratch, mepc, mcause, mtval, stvec, scounteren, sscratch, sepc, scause,
+    /// stval, satp.
+    pub fn values(&self) -> [u64; 17]
+        ensures { result ≡ values_of self.now }
+    {
+        [
+            self.mstatus,
+            self.medeleg,
+            self.mideleg,
+            self.mie,
+            self.mtvec,
+            self.mcounteren,
+            self.mscratch,
+            self.mepc,
+            self.mcause,
+            self.mtval,
+            self.stvec,
+            self.scounteren,
+            self.sscratch,
+            self.sepc,
+            self.scause,
+            self.stval,
+            self.satp,
+        ]
     }
 
     /// The floor of a counter: 0 is cycle, 1 is time, and any other number instret.

@@ -1,12 +1,10 @@
 use crate::{Misfit, drains, store_data};
-use dt_record::{Key, Reason};
+use dt_record::Reason;
 use dt_stores::{OwnStore, Stores};
 use std::alloc::{AllocError, Global};
 use std::test::Fail;
 
 const LINE: u64 = 0x8000_0100;
-
-const NEXT_LINE: u64 = 0x8000_0140;
 
 const FIRST: OwnStore = OwnStore {
     seq: 2,
@@ -18,13 +16,6 @@ const FIRST: OwnStore = OwnStore {
 const SECOND: OwnStore = OwnStore {
     seq: 3,
     addr: 0x8000_0108,
-    width: 8,
-    value: 7,
-};
-
-const NEXT: OwnStore = OwnStore {
-    seq: 4,
-    addr: NEXT_LINE,
     width: 8,
     value: 7,
 };
@@ -56,26 +47,6 @@ fn refused(reason: Reason, expected: u64, found: u64) -> Result<(), Misfit> {
 }
 
 #[test]
-fn drains_singly_together_and_never_too_many(rt: HostRuntime) -> Result<(), Fail> {
-    let mut stores = two_stores(rt.alloc())?;
-    let both = sevens(&[0, 8]);
-    assert_eq!(rt; drains(&stores, LINE, 0xffff, 2, &both, 4), Ok(()));
-    assert_eq!(rt;
-        drains(&stores, LINE, 0xffff, 3, &both, 4),
-        refused(Reason::DrainCount, 2, 3)
-    );
-    assert_eq!(rt; drains(&stores, LINE, 0xff, 1, &sevens(&[0]), 4), Ok(()));
-    let first = Key {
-        stamp: 5,
-        hart: 0,
-        seq: 4,
-    };
-    stores.drain(first, LINE, 1);
-    assert_eq!(rt; drains(&stores, LINE, 0xff00, 1, &sevens(&[8]), 5), Ok(()));
-    Ok(())
-}
-
-#[test]
 fn other_data_is_refused(rt: HostRuntime) -> Result<(), Fail> {
     let stores = two_stores(rt.alloc())?;
     assert_eq!(rt;
@@ -88,22 +59,5 @@ fn other_data_is_refused(rt: HostRuntime) -> Result<(), Fail> {
     );
     assert_eq!(rt; store_data(7, 7), Ok(()));
     assert_eq!(rt; store_data(7, 8), refused(Reason::StoreData, 7, 8));
-    Ok(())
-}
-
-#[test]
-fn an_older_store_behind_a_fence_bars(rt: HostRuntime) -> Result<(), Fail> {
-    let mut stores = Stores::new(rt.alloc());
-    stores.commit(FIRST)?;
-    stores.fence(true, false);
-    stores.commit(NEXT)?;
-    assert_eq!(rt;
-        drains(&stores, NEXT_LINE, 0xff, 1, &sevens(&[0]), 5),
-        refused(Reason::Barrier, 2, 5)
-    );
-    assert_eq!(rt;
-        drains(&stores, NEXT_LINE, 0xff, 2, &sevens(&[0]), 5),
-        refused(Reason::DrainCount, 1, 2)
-    );
     Ok(())
 }

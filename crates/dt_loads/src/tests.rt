@@ -7,18 +7,13 @@ use crate::{
 };
 use dt_local::Local;
 use dt_record::{Image, Key, Origin, Write};
-use dt_rules::{Letters, NO_LETTERS, Reason};
+use dt_rules::{NO_LETTERS, Reason};
 use dt_stores::{OwnStore, Stores};
 use dt_versions::Moments;
 use std::alloc::{AllocError, Global};
 use std::test::Fail;
 
 const LINE: u64 = 0x8000_0100;
-
-const ONLY_L: Letters = Letters {
-    l: true,
-    ..NO_LETTERS
-};
 
 fn key(stamp: u64, hart: u8, seq: u32) -> Key
     ensures { result ≡ record { stamp = stamp; hart = hart; seq = seq } }
@@ -67,37 +62,6 @@ fn misfit(reason: Reason, expected: u64, found: u64) -> Misfit {
 }
 
 #[test]
-fn a_drain_of_another_hart(rt: HostRuntime) -> Result<(), Fail> {
-    let moments = drained(rt.alloc())?;
-    let stores = Stores::new(rt.alloc());
-    let local = Local::new(rt.alloc());
-    let written = Ok(Passed {
-        letters: ONLY_L,
-        sources: everywhere(Origin::Write(key(10, 0, 5))),
-    });
-    let image = Ok(Passed {
-        letters: NO_LETTERS,
-        sources: everywhere(Origin::Image),
-    });
-    for (stamp, at, value, answer) in [
-        (12, 12, 7, written),
-        (10, 10, 7, written),
-        (10, 10, 0, image),
-        (12, 12, 0, Err(misfit(Reason::LoadSource, 7, 0))),
-        (12, 9, 0, image),
-    ] {
-        assert!(rt; at <= stamp);
-        let ask = double(key(stamp, 1, 3), at, value);
-        assert_eq!(rt;
-            ram_load(&moments, &stores, &local, ask, true, value),
-            answer,
-            "at {at}, value {value}"
-        );
-    }
-    Ok(())
-}
-
-#[test]
 fn a_noted_load_is_known(rt: HostRuntime) -> Result<(), Fail> {
     let moments = drained(rt.alloc())?;
     let stores = Stores::new(rt.alloc());
@@ -119,49 +83,6 @@ fn a_noted_load_is_known(rt: HostRuntime) -> Result<(), Fail> {
     Ok(())
 }
 
-/// An image with the bytes from 0x11 to 0x88 at the line.
-fn counting(alloc: Global) -> Result<Moments, AllocError> {
-    let mut image = [0; 264];
-    for i in 0..8 {
-        image[256 + i] = 0x11 * (i as u8 + 1);
-    }
-    let bytes = Vec::from_slice(alloc, &image)?;
-    Ok(Moments::empty(alloc, Image::of(bytes)))
-}
-
-#[test]
-fn a_word_is_forwarded_into_a_double(rt: HostRuntime) -> Result<(), Fail> {
-    let moments = counting(rt.alloc())?;
-    let mut stores = Stores::new(rt.alloc());
-    stores.commit(OwnStore {
-        seq: 2,
-        addr: LINE,
-        width: 4,
-        value: 7,
-    })?;
-    let local = Local::new(rt.alloc());
-    let value = 0x8877_6655_0000_0007;
-    let mut sources = everywhere(Origin::Image);
-    for i in 0..4 {
-        sources.from[i] = Origin::Store(2);
-    }
-    let passed = Passed {
-        letters: NO_LETTERS,
-        sources,
-    };
-    let ask = double(key(4, 0, 3), 4, value);
-    assert_eq!(rt;
-        ram_load(&moments, &stores, &local, ask, true, value),
-        Ok(passed)
-    );
-    let ask = double(key(4, 0, 3), 4, 0);
-    assert_eq!(rt;
-        ram_load(&moments, &stores, &local, ask, true, 0),
-        Err(misfit(Reason::LoadSource, value, 0))
-    );
-    Ok(())
-}
-
 /// The double 7 is stored at the start of the line, before a fence of all accesses.
 fn fenced(alloc: Global) -> Result<Stores, AllocError> {
     let mut stores = Stores::new(alloc);
@@ -180,7 +101,9 @@ fn a_load_after_a_fence(rt: HostRuntime) -> Result<(), Fail> {
     let mut stores = fenced(rt.alloc())?;
     assert_eq!(rt; order(&stores, 0, 8), Err(misfit(Reason::Order, 2, 8)));
     assert_eq!(rt; order(&stores, 9, 8), Err(misfit(Reason::Order, 9, 8)));
-    stores.drain(key(6, 0, 4), LINE, 1);
+    let drained = key(6, 0, 4);
+    assert!(rt; stores.can_drain(drained));
+    stores.drain(drained, LINE, 1);
     assert_eq!(rt; order(&stores, 0, 6), Ok(()));
     assert_eq!(rt; order(&stores, 0, 5), Err(misfit(Reason::Order, 2, 5)));
     Ok(())

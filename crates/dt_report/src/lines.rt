@@ -1,4 +1,5 @@
 ghost use Rattle.std.specs.Prelude.{◌≡◌, ◌≤◌, ◌++◌, OnOk, length, sum_by};
+ghost use Rattle.dt_text.specs.Line.{decimal_field};
 ghost use Rattle.dt_verdict.specs.declared.tallies.Counts.{Counts};
 ghost use Rattle.dt_report.specs.Report.{failed_text, verdict_line, total_line, hart_line, hart_lines, is_set, count_of, rules_line};
 
@@ -64,6 +65,13 @@ pub fn put_totals(out: &mut Vec<u8>, harts: u8, counts: &[Counts]) -> Result<(),
     out.extend_from_slice(b"\n")
 }
 
+/// Appends a count behind its name.
+fn put_count(out: &mut Vec<u8>, name: &str, count: u64) -> Result<(), AllocError>
+    ensures { OnOk result (out.new.items ≡ out.old.items ++ decimal_field name.now count) }
+{
+    put_decimal(out, name, count)
+}
+
 /// Appends the line of one hart.
 #[tactic(auto, unfolding(crate::specs::Report::hart_line))]
 fn put_hart(out: &mut Vec<u8>, hart: usize, counts: &Counts) -> Result<(), AllocError>
@@ -71,12 +79,12 @@ fn put_hart(out: &mut Vec<u8>, hart: usize, counts: &Counts) -> Result<(), Alloc
 {
     out.extend_from_slice(b"hart ")?;
     put_number(out, hart as u64)?;
-    put_decimal(out, "retired", u64::from(counts.retired))?;
-    put_decimal(out, "traps", u64::from(counts.traps))?;
-    put_decimal(out, "loads", u64::from(counts.loads))?;
-    put_decimal(out, "stores", u64::from(counts.stores))?;
-    put_decimal(out, "atomics", u64::from(counts.atomics))?;
-    put_decimal(out, "drains", u64::from(counts.drains))?;
+    put_count(out, "retired", u64::from(counts.retired))?;
+    put_count(out, "traps", u64::from(counts.traps))?;
+    put_count(out, "loads", u64::from(counts.loads))?;
+    put_count(out, "stores", u64::from(counts.stores))?;
+    put_count(out, "atomics", u64::from(counts.atomics))?;
+    put_count(out, "drains", u64::from(counts.drains))?;
     out.extend_from_slice(b"\n")
 }
 
@@ -131,12 +139,12 @@ pub fn put_rules(out: &mut Vec<u8>, notes: &[Noted]) -> Result<(), AllocError>
     ensures { OnOk result (out.new.items ≡ out.old.items ++ rules_line notes.now) }
 {
     out.extend_from_slice(b"rules")?;
-    put_decimal(out, "L", letter_count(notes, Letter::L) as u64)?;
-    put_decimal(out, "S", letter_count(notes, Letter::S) as u64)?;
-    put_decimal(out, "P", letter_count(notes, Letter::P) as u64)?;
-    put_decimal(out, "I", letter_count(notes, Letter::I) as u64)?;
-    put_decimal(out, "D", letter_count(notes, Letter::D) as u64)?;
-    put_decimal(out, "C", letter_count(notes, Letter::C) as u64)?;
-    put_decimal(out, "Z", letter_count(notes, Letter::Z) as u64)?;
+    put_count(out, "L", letter_count(notes, Letter::L) as u64)?;
+    put_count(out, "S", letter_count(notes, Letter::S) as u64)?;
+    put_count(out, "P", letter_count(notes, Letter::P) as u64)?;
+    put_count(out, "I", letter_count(notes, Letter::I) as u64)?;
+    put_count(out, "D", letter_count(notes, Letter::D) as u64)?;
+    put_count(out, "C", letter_count(notes, Letter::C) as u64)?;
+    put_count(out, "Z", letter_count(notes, Letter::Z) as u64)?;
     out.extend_from_slice(b"\n")
 }

@@ -1,8 +1,5 @@
-use crate::{Misfit, counter, device, interrupt, none_left, pending, same_bytes, sc_live, tval};
+use crate::{counter, device, interrupt, pending, tval};
 use dt_csr::Csrs;
-use dt_record::{Image, Key, Reason, Write};
-use dt_versions::Moments;
-use std::test::Fail;
 
 const MACHINE_TIMER: u64 = 0x8000_0000_0000_0007;
 
@@ -75,57 +72,5 @@ fn adopted_values(rt: HostRuntime) {
     assert_eq!(rt;
         (device(4, true, 0x8000_0000), device(2, false, 0x1_0000)),
         (false, false)
-    );
-}
-
-const LINE: u64 = 0x8000_0100;
-
-fn key(stamp: u64, hart: u8, seq: u32) -> Key {
-    Key { stamp, hart, seq }
-}
-
-#[test]
-fn another_harts_write_ends_a_reservation(rt: HostRuntime) -> Result<(), Fail> {
-    let mut moments = Moments::empty(rt.alloc(), Image::of(Vec::new(rt.alloc())));
-    let reserved = Some((LINE, key(6, 1, 5)));
-    assert!(rt; sc_live(&moments, reserved, LINE, key(15, 1, 6)));
-    assert!(rt; !sc_live(&moments, reserved, LINE + 64, key(15, 1, 6)));
-    assert!(rt; !sc_live(&moments, None, LINE, key(15, 1, 6)));
-    let drained = Write {
-        key: key(10, 0, 5),
-        line: LINE,
-        mask: 0xff,
-        bytes: [0; 64],
-    };
-    assert!(rt; moments.can_add(&drained));
-    moments.add(drained)?;
-    assert!(rt; !sc_live(&moments, reserved, LINE, key(15, 1, 6)));
-    assert!(rt; sc_live(&moments, reserved, LINE, key(9, 1, 6)));
-    assert!(rt; sc_live(&moments, Some((LINE, key(6, 0, 4))), LINE, key(15, 0, 6)));
-    Ok(())
-}
-
-#[test]
-fn a_store_that_is_left_is_named(rt: HostRuntime) {
-    assert_eq!(rt; none_left(Reason::Undrained, None, 9), Ok(()));
-    let refused = Misfit {
-        reason: Reason::Undrained,
-        expected: 4,
-        found: 9,
-    };
-    assert_eq!(rt; none_left(Reason::Undrained, Some(4), 9), Err(refused));
-}
-
-#[test]
-fn the_first_bytes_that_differ_are_named(rt: HostRuntime) {
-    assert_eq!(rt; same_bytes(Reason::Refill, &[7, 8, 1], &[7, 8, 1]), Ok(()));
-    let refused = Misfit {
-        reason: Reason::Refill,
-        expected: 8,
-        found: 9,
-    };
-    assert_eq!(rt;
-        same_bytes(Reason::Refill, &[7, 8, 1], &[7, 9, 2]),
-        Err(refused)
     );
 }

@@ -153,7 +153,8 @@ fn floor_after(op: CsrOp, floor: u64, operand: u64) -> u64
     }
 }
 
-fn csr_value(op: CsrOp, old: u64, operand: u64) -> u64
+/// The value that a CSR instruction makes of the register's old value and its operand.
+pub fn csr_value(op: CsrOp, old: u64, operand: u64) -> u64
     ensures { result ≡ csr_value op old operand }
 {
     match op {

@@ -10,7 +10,7 @@ mod state;
 #[cfg(test)]
 mod tests;
 
-pub use finishing::finish;
+pub use finishing::{csr_value, finish};
 pub use laws::decoded_targets_are_even;
 pub use planning::plan;
 pub use plans::{Answer, AtomicOp, Planned};

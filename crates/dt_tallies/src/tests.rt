@@ -1,21 +1,7 @@
 use crate::{count, is_named, named};
-use dt_record::{Body, Key, Letters, Origin, Record, Retire, Sources};
-use dt_verdict::{Counts, Noted};
+use dt_record::{Key, Letters, Origin, Sources};
+use dt_verdict::Noted;
 use std::test::Fail;
-
-const STORE: Body = Body::Store {
-    pc: 0x8000_0008,
-    bits: 0x1072_b023,
-    paddr: 0x8000_0100,
-    value: 7,
-};
-
-const DRAIN: Body = Body::Drain {
-    line: 0x8000_0100,
-    mask: 0xff,
-    count: 1,
-    bytes: [0; 64],
-};
 
 const NO_LETTERS: Letters = Letters {
     l: false,
@@ -27,20 +13,6 @@ const NO_LETTERS: Letters = Letters {
     z: false,
 };
 
-fn record(stamp: u64, hart: u8, body: Body) -> Record {
-    Record { stamp, hart, body }
-}
-
-fn commit(value: u64) -> Body {
-    Body::Commit {
-        retire: Retire {
-            pc: 0x8000_0000,
-            bits: 0x0050_0093,
-            value,
-        },
-    }
-}
-
 const fn key(stamp: u64, hart: u8, seq: u32) -> Key {
     Key { stamp, hart, seq }
 }
@@ -50,42 +22,6 @@ fn sources(count: u8) -> Sources {
         count,
         from: [Origin::Image; 8],
     }
-}
-
-#[test]
-fn stores_and_their_drains_are_counted(rt: HostRuntime) {
-    let records = [
-        record(1, 0, commit(0x8000_0000)),
-        record(2, 0, commit(7)),
-        record(3, 0, STORE),
-        record(4, 0, STORE),
-        record(5, 0, DRAIN),
-        record(6, 0, DRAIN),
-    ];
-    let before = Counts {
-        records: 4,
-        retired: 4,
-        stores: 2,
-        ..Counts::default()
-    };
-    let all = Counts {
-        records: 6,
-        writes: 2,
-        drains: 2,
-        ..before
-    };
-    assert_eq!(rt; count(&records, 0, None), all);
-    assert_eq!(rt; count(&records, 0, Some(key(5, 0, 4))), before);
-    assert_eq!(rt; count(&records, 1, None), Counts::default());
-}
-
-#[test]
-fn the_failing_record_and_those_above_it_do_not_count(rt: HostRuntime) {
-    let records = [record(20, 1, commit(5)), record(20, 0, commit(6))];
-    let failing = Some(key(20, 0, 0));
-    assert_eq!(rt; count(&records, 0, failing), Counts::default());
-    assert_eq!(rt; count(&records, 1, failing), Counts::default());
-    assert_eq!(rt; count(&records, 1, None).retired, 1);
 }
 
 #[test]

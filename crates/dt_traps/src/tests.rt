@@ -5,7 +5,7 @@ ghost use Rattle.dt_traps.specs.Traps.{SpansEndWithin};
 
 use crate::{TrapSpans, access_address, trap};
 use dt_checks::FetchSpans;
-use dt_csr::{MACHINE, SUPERVISOR, mstatus};
+use dt_csr::{MACHINE, SUPERVISOR};
 use dt_record::{Image, Key, Write};
 use dt_rules::{Letters, Misfit, NO_LETTERS, NO_NUMBER, Reason};
 use dt_step::{Arch, reset};
@@ -13,8 +13,6 @@ use dt_versions::{Moments, Span};
 use std::alloc::{AllocError, Global};
 use std::process::Abort;
 use std::test::Fail;
-
-const TIMER: u64 = 0x8000_0000_0000_0007;
 
 /// What a record of a trap says.
 #[derive(Clone, Copy, Debug)]
@@ -137,31 +135,6 @@ fn zeroed() -> Result<Letters, Misfit> {
     })
 }
 
-#[test]
-fn interrupts_are_taken_where_enabled(rt: HostRuntime) -> Result<(), Fail> {
-    let moments = made(&rt, rt.alloc(), 0x0050_0093, &[])?;
-    let taken = Ok(Letters {
-        i: true,
-        ..NO_LETTERS
-    });
-    for (mie, status, tval, expected) in [
-        (0x00, 0x0, 0, refused(Reason::Interrupt, 0, TIMER)),
-        (0x80, 0x8, 0, taken),
-        (0x00, 0x8, 0, refused(Reason::Interrupt, 0, TIMER)),
-        (0x80, 0x8, 1, refused(Reason::Tval, 0, 1)),
-    ] {
-        let mut a = hart(&rt, 0x8000_0000, MACHINE, 0);
-        a.csrs.mie = mie;
-        let status = a.csrs.mstatus | status;
-        assert!(rt; mstatus::MPP.get(status) != mstatus::RESERVED_MODE);
-        a.csrs.mstatus = status;
-        let e = event(0x8000_0000, 0, TIMER, tval);
-        let answer = judged(&rt, &moments, (0, 0, 0), &a, e);
-        assert_eq!(rt; answer, expected, "{e:?} with mie {mie:x}");
-    }
-    Ok(())
-}
-
 /// EBREAK; a pattern with no meaning; a load of 8 bytes at an odd address; ADDI.
 #[test]
 fn causes_that_instructions_raise_by_themselves(rt: HostRuntime) -> Result<(), Fail> {
@@ -195,68 +168,6 @@ fn causes_that_instructions_raise_by_themselves(rt: HostRuntime) -> Result<(), F
     let e = event(pc, 0x0011_0073, 3, pc);
     let answer = judged(&rt, &moments, (0, 0, 0), &a, e);
     assert_eq!(rt; answer, refused(Reason::Fetch, pc + 2, 0x11));
-    Ok(())
-}
-
-/// A load, an LR and an SC of 8 bytes, at a device and after RAM.
-#[test]
-fn atomics_fault_at_devices(rt: HostRuntime) -> Result<(), Fail> {
-    let pc = 0x8000_0000;
-    for (bits, address, cause, expected) in [
-        (0x0002_b403, 0x1000, 5, refused(Reason::Cause, NO_NUMBER, 5)),
-        (0x0002_b403, 0x8400_0000, 5, plain()),
-        (0x1005_35af, 0x1000, 5, plain()),
-        (0x1875_362f, 0x1000, 7, plain()),
-        (0x1875_362f, 0x1000, 5, refused(Reason::Cause, 7, 5)),
-    ] {
-        let a = hart(&rt, pc, MACHINE, address);
-        let moments = made(&rt, rt.alloc(), bits, &[])?;
-        let answer = judged(
-            &rt,
-            &moments,
-            (0, 0, 0),
-            &a,
-            event(pc, bits, cause, address),
-        );
-        assert_eq!(rt; answer, expected, "{bits:x} at {address:x}");
-    }
-    Ok(())
-}
-
-/// The write puts the first halfword of ADDI at the end of RAM.
-#[test]
-fn fetches_fault_outside_ram(rt: HostRuntime) -> Result<(), Fail> {
-    let moments = made(&rt, rt.alloc(), 0, &[write(0x83ff_ffc0, 56, 0x0093 << 48)])?;
-    let (end, last) = (0x8400_0000, 0x83ff_fffe);
-    for (e, expected) in [
-        (event(end, 0, 1, end), plain()),
-        (event(end, 0, 12, end), refused(Reason::Cause, 1, 12)),
-        (
-            event(0x8000_0000, 0, 1, 0x8000_0000),
-            refused(Reason::Cause, NO_NUMBER, 1),
-        ),
-        (event(last, 0x0093, 1, end), plain()),
-        (
-            event(last, 0x0093, 1, last),
-            refused(Reason::Tval, end, last),
-        ),
-        (
-            event(last, 0x0013, 1, end),
-            refused(Reason::Fetch, last, 0x13),
-        ),
-        (
-            event(last, 0x0092, 1, end),
-            refused(Reason::Fetch, last, 0x92),
-        ),
-        (
-            event(last, 0x0050_0093, 1, end),
-            refused(Reason::Fetch, last, 0x93),
-        ),
-    ] {
-        let a = hart(&rt, e.pc, MACHINE, 0);
-        let answer = judged(&rt, &moments, (0, 0, 0), &a, e);
-        assert_eq!(rt; answer, expected, "{e:?}");
-    }
     Ok(())
 }
 
