@@ -1,63 +1,66 @@
-"""Records, probe files and images as bytes, by their layout in docs/PROBE-FORMAT.md, and the program.
+"""Records, probe files and images as bytes, and the program.
 
-The offsets of `commit` and the others count from the start of RAM.
+The records are those of the repository's Python package. The offsets of `commit` and the others count
+from the start of RAM.
 """
 import os
 import struct
 import subprocess
+import sys
 
 TOP = os.path.dirname(os.path.dirname(os.path.abspath(__file__)))
 PROGRAM = os.path.join(TOP, "difftest")
-RAM = 0x8000_0000
+sys.path.insert(0, os.path.join(TOP, "probes", "python"))
 
-
-def head(tag, hart, stamp):
-    return struct.pack("<BBQ", tag, hart, stamp)
+from difftest_probes import (  # noqa: E402
+    Atomic, Beat, Commit, Csrs, Drain, Header, Load, Refill, Regs, Store, Trap)
+from difftest_probes.records import RAM_START as RAM  # noqa: E402
+from difftest_probes.spelling import spell, spell_end  # noqa: E402
 
 
 def commit(hart, stamp, offset, bits, value):
-    return head(1, hart, stamp) + struct.pack("<QIQ", RAM + offset, bits, value)
+    return spell(Commit(hart, stamp, RAM + offset, bits, value))
 
 
 def trap(hart, stamp, offset, bits, cause, tval):
-    return head(2, hart, stamp) + struct.pack("<QIQQ", RAM + offset, bits, cause, tval)
+    return spell(Trap(hart, stamp, RAM + offset, bits, cause, tval))
 
 
 def load(hart, stamp, offset, bits, value, at, paddr):
-    return head(5, hart, stamp) + struct.pack("<QIQQQ", RAM + offset, bits, value, at, paddr)
+    return spell(Load(hart, stamp, RAM + offset, bits, value, at, paddr))
 
 
 def store(hart, stamp, offset, bits, paddr, value):
-    return head(6, hart, stamp) + struct.pack("<QIQQ", RAM + offset, bits, paddr, value)
+    return spell(Store(hart, stamp, RAM + offset, bits, paddr, value))
 
 
 def atomic(hart, stamp, offset, bits, value, paddr, width, wrote, new):
-    return head(7, hart, stamp) + struct.pack("<QIQQBBQ", RAM + offset, bits, value, paddr, width, wrote, new)
+    return spell(Atomic(hart, stamp, RAM + offset, bits, value, paddr, width, wrote, new))
 
 
 def refill(hart, stamp, line, content):
-    return head(9, hart, stamp) + struct.pack("<Q", line) + content.ljust(64, b"\0")
+    return spell(Refill(hart, stamp, line, content.ljust(64, b"\0")))
 
 
 def drain(hart, stamp, line, mask, count, places):
-    bytes_ = bytearray(64)
-    for place, byte in places.items():
-        bytes_[place] = byte
-    return head(8, hart, stamp) + struct.pack("<QQH", line, mask, count) + bytes(bytes_)
+    content = bytes(places.get(place, 0) for place in range(64))
+    return spell(Drain(hart, stamp, line, mask, count, content))
 
 
 def registers(hart, stamp, offset, changed):
-    values = [changed.get(number, 0) for number in range(1, 32)]
-    return head(3, hart, stamp) + struct.pack("<32Q", RAM + offset, *values)
+    return spell(Regs(hart, stamp, RAM + offset, tuple(changed.get(number, 0) for number in range(1, 32))))
 
 
 def csrs(hart, stamp, mode, mstatus):
-    return head(4, hart, stamp) + struct.pack("<B17Q", mode, mstatus, *[0] * 16)
+    return spell(Csrs(hart, stamp, mode, (mstatus,) + (0,) * 16))
+
+
+def beat(hart, stamp):
+    return spell(Beat(hart, stamp))
 
 
 def probe_file(harts, records, flags=0):
-    header = b"SMPDIFF\0" + struct.pack("<HBBI", 1, harts, flags, 0)
-    return header + b"".join(records) + struct.pack("<BQ", 255, len(records))
+    return b"".join([Header(harts, 1, flags == 1).spell(), *records, spell_end(len(records))])
 
 
 def words(*values):

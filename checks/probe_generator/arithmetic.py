@@ -1,6 +1,6 @@
 """Values of the arithmetic, comparing and atomic operations."""
 
-from .fields import sign_extend, signed, wrap
+from difftest_probes.isa.fields import sign_extend, signed, wrap
 
 
 def extend(width, is_signed, raw):

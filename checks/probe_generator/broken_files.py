@@ -1,8 +1,10 @@
 """Changes of the bytes of a probe file that break its form."""
 
-import struct
+from dataclasses import replace
 
-from .records import Record, spell_end, spell_file
+from difftest_probes.records import Atomic, Drain, Load, Trap
+from difftest_probes.spelling import spell_end
+from .files import spell_file, spell_records
 
 # Fields whose bounds a single record may break, with a bad number.
 BAD_FIELDS = (
@@ -16,123 +18,159 @@ BAD_FIELDS = (
 )
 
 
-def cut(random, data, records):
+class WholeFile:
+    """A file as its header, its records and their bytes."""
+
+    def __init__(self, header, records):
+        self.header = header
+        self.records = records
+        self.pieces = spell_records(header, records)
+        self.data = spell_file(header, records)
+
+    def start(self, place):
+        """Where the record of this place begins."""
+        return 16 + sum(len(piece) for piece in self.pieces[:place])
+
+    def with_record(self, place, record):
+        """The file with another record in this place."""
+        return spell_file(self.header, self.records[:place] + [record] + self.records[place + 1:])
+
+    def with_piece(self, place, piece):
+        """The file with other bytes in the place of a record's."""
+        pieces = self.pieces[:place] + [piece] + self.pieces[place + 1:]
+        return b"".join([self.header.spell(), *pieces, spell_end(len(pieces))])
+
+    def places(self, kind):
+        """The places of the records of a kind."""
+        return [place for place, record in enumerate(self.records) if isinstance(record, kind)]
+
+
+def cut(random, file):
     """The file without its end."""
-    return data[:random.randrange(len(data))]
+    return file.data[:random.randrange(len(file.data))]
 
 
-def append(random, data, records):
+def append(random, file):
     """The file with more bytes after it."""
-    return data + random.choice((b"\0", b"\xff", data[-9:], data[16:46]))
+    return file.data + random.choice((b"\0", b"\xff", file.data[-9:], file.data[16:46]))
 
 
-def header(random, data, records):
-    """A changed byte of the header."""
-    changed = bytearray(data)
+def header(random, file):
+    """A changed bit of the header."""
+    changed = bytearray(file.data)
     changed[random.randrange(16)] ^= 1 << random.randrange(8)
-    # Other versions and flags may have a meaning elsewhere.
-    changed[8] = changed[8] if changed[8] not in (2,) else 3
-    changed[11] = changed[11] & ~1
     return bytes(changed)
 
 
-def end_count(random, data, records):
+def end_count(random, file):
     """An End record with a wrong count."""
-    count = max(0, len(records) + random.choice((-1, 1, 2, 1 << 32)))
-    return data[:-9] + spell_end(count)
+    count = max(0, len(file.records) + random.choice((-1, 1, 2, 1 << 32)))
+    return file.data[:-9] + spell_end(count)
 
 
-def tag(random, data, records):
+def _with_byte(random, file, offset, value):
+    """The file with another byte at an offset of some record."""
+    if not file.records:
+        return file.data[:-1]
+    start = file.start(random.randrange(len(file.records))) + offset
+    return file.data[:start] + bytes([value]) + file.data[start + 1:]
+
+
+def tag(random, file):
     """A record with a tag that no kind has."""
-    return _with_byte(random, data, records, 0, random.choice((0, 11, 12, 128, 254, 255)))
+    return _with_byte(random, file, 0, random.choice((0, 11, 12, 128, 254, 255)))
 
 
-def hart(random, data, records):
+def hart(random, file):
     """A record of a hart that the header doesn't have."""
-    return _with_byte(random, data, records, 1, random.choice((data[10], 8, 255)))
+    return _with_byte(random, file, 1, random.choice((file.header.harts, 8, 255)))
 
 
-def _start(records, place):
-    return 16 + sum(len(record.spell()) for record in records[:place])
-
-
-def _with_byte(random, data, records, offset, value):
-    if not records:
-        return data[:-1]
-    start = _start(records, random.randrange(len(records)))
-    return data[:start + offset] + bytes([value]) + data[start + offset + 1:]
-
-
-def stamps(random, data, records):
-    """A record with a stamp below the one before it of its hart."""
-    places = [n for n, record in enumerate(records) if record.stamp]
+def stamps(random, file):
+    """A record with a stamp below the one before it of its hart, or in version 2 beyond all numbers."""
+    places = [n for n, record in enumerate(file.records) if record.stamp]
     if not places:
-        return data + b"\0"
-    start = _start(records, random.choice(places))
-    old = struct.unpack("<Q", data[start + 2:start + 10])[0]
-    new = struct.pack("<Q", random.choice((0, old - 1, old >> 1)))
-    return data[:start + 2] + new + data[start + 10:]
-
-
-def bound(random, data, records):
-    """A record with a field beyond its bound."""
-    choices = [(n, name, value) for n, record in enumerate(records)
-               for kind, name, value in BAD_FIELDS if kind == record.kind]
-    choices += [(n, "at", None) for n, record in enumerate(records) if record.kind == "Load"]
-    if not choices:
-        return data[:-3]
-    place, name, value = random.choice(choices)
-    changed = records[place].copy()
-    changed.body[name] = changed.stamp + 1 if value is None else value
-    if changed.body[name] > (1 << 64) - 1:
-        changed.body[name] = changed.stamp
-    return spell_file(data[10], records[:place] + [changed] + records[place + 1:])
-
-
-def outside_mask(random, data, records):
-    """A drain with a byte that its mask doesn't have."""
-    places = [n for n, record in enumerate(records)
-              if record.kind == "Drain" and record.body["mask"] != (1 << 64) - 1]
-    if not places:
-        return data[:-9]
-    changed = records[random.choice(places)]
-    place = records.index(changed)
-    changed = changed.copy()
-    free = [n for n in range(64) if not changed.body["mask"] >> n & 1]
-    content = bytearray(changed.body["bytes"])
-    content[random.choice(free)] = random.randrange(1, 256)
-    changed.body["bytes"] = bytes(content)
-    return spell_file(data[10], records[:place] + [changed] + records[place + 1:])
-
-
-def new_above(random, data, records):
-    """An atomic that says what it wrote where it wrote nothing, or more than its width."""
-    places = [n for n, record in enumerate(records) if record.kind == "Atomic"]
-    if not places:
-        return data + b"\x0a"
+        return file.data + b"\0"
     place = random.choice(places)
-    changed = records[place].copy()
-    changed.body["new"] = 1 << 32 if changed.body["width"] == 4 else 1
-    if changed.body["width"] == 8:
-        changed.body["wrote"] = 0
-    return spell_file(data[10], records[:place] + [changed] + records[place + 1:])
+    old = file.records[place].stamp
+    new = random.choice((0, old - 1, old >> 1)) if file.header.version == 1 else 1 << 64
+    record = replace(file.records[place], stamp=new)
+    if file.header.version == 1:
+        return file.with_record(place, record)
+    return file.with_piece(place, spell_records(file.header, file.records[:place] + [record])[-1])
 
 
-def interrupt_bits(random, data, records):
+def bound(random, file):
+    """A record with a field beyond its bound."""
+    choices = [(n, name, value) for n, record in enumerate(file.records)
+               for kind, name, value in BAD_FIELDS if kind == record.kind]
+    choices += [(n, "at", None) for n in file.places(Load)]
+    if not choices:
+        return file.data[:-3]
+    place, name, value = random.choice(choices)
+    record = file.records[place]
+    if value is None:
+        value = min(record.stamp + 1, (1 << 64) - 1)
+    return file.with_record(place, replace(record, **{name: value}))
+
+
+def outside_mask(random, file):
+    """A drain with a byte that its mask doesn't have; in version 2 there is no such drain."""
+    places = [place for place in file.places(Drain) if file.records[place].mask != (1 << 64) - 1]
+    if not places:
+        return file.data[:-9]
+    place = random.choice(places)
+    record = file.records[place]
+    content = bytearray(record.content)
+    content[random.choice([n for n in range(64) if not record.mask >> n & 1])] = random.randrange(1, 256)
+    return file.with_record(place, replace(record, content=bytes(content)))
+
+
+def new_above(random, file):
+    """An atomic that says what it wrote where it wrote nothing, or more than its width."""
+    places = file.places(Atomic)
+    if not places:
+        return file.data + b"\x0a"
+    place = random.choice(places)
+    record = file.records[place]
+    if record.width == 4:
+        return file.with_record(place, replace(record, new=1 << 32))
+    return file.with_record(place, replace(record, new=1, wrote=0))
+
+
+def interrupt_bits(random, file):
     """An interrupt with instruction bits."""
-    stamp = max((record.stamp for record in records if record.hart == 0), default=0)
-    extra = Record("Trap", 0, stamp, pc=0, bits=0x13, cause=1 << 63 | 7, tval=0)
-    return spell_file(data[10], records + [extra])
+    stamp = max((record.stamp for record in file.records if record.hart == 0), default=0)
+    extra = Trap(0, stamp, pc=0, bits=0x13, cause=1 << 63 | 7, tval=0)
+    return spell_file(file.header, file.records + [extra])
+
+
+def flip(random, file):
+    """A changed bit behind the header; in version 2 mostly one of a number's spelling."""
+    changed = bytearray(file.data)
+    changed[random.randrange(16, len(changed))] ^= 1 << random.randrange(8)
+    return bytes(changed)
+
+
+def idle_byte(random, file):
+    """A record with a byte more or less, as where a number is spelled with an idle last byte."""
+    if not file.records:
+        return file.data[:16] + b"\x80" + file.data[16:]
+    place = random.randrange(len(file.records))
+    piece = file.pieces[place]
+    at = random.randrange(2, len(piece) + 1)
+    middle = random.choice((b"\0", b"\x80", b"\x80\0"))
+    return file.with_piece(place, piece[:at] + middle + piece[at + random.choice((0, 1)):])
 
 
 BREAKS = {
     "cut": cut, "append": append, "header": header, "end": end_count, "tag": tag, "hart": hart,
     "stamps": stamps, "bound": bound, "mask": outside_mask, "new": new_above,
-    "interrupt": interrupt_bits,
+    "interrupt": interrupt_bits, "flip": flip, "idle byte": idle_byte,
 }
 
 
-def break_file(random, harts, records):
+def break_file(random, header_, records):
     """The name of a break and the broken bytes; a few may still be good."""
     name = random.choice(tuple(BREAKS))
-    return name, BREAKS[name](random, spell_file(harts, records), records)
+    return name, BREAKS[name](random, WholeFile(header_, records))

@@ -1,6 +1,6 @@
 """The plain shift generator of draws that the toy device and the random image use."""
 
-from .fields import ALL_ONES
+from difftest_probes.isa.fields import ALL_ONES
 
 
 class Draws:

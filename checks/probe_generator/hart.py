@@ -1,11 +1,10 @@
 """The architectural state of one hart and the meaning of one instruction."""
 
-from . import csrs as control
-from .arithmetic import alu, compare
-from .compressed import expand
-from .decoding import decode
-from .fields import (BREAKPOINT, ECALL_FROM_USER, ILLEGAL, LOAD_MISALIGNED, MACHINE, RAM_START,
+from difftest_probes.isa import csrs as control
+from difftest_probes.isa.compressed import meaning_of
+from difftest_probes.isa.fields import (BREAKPOINT, ECALL_FROM_USER, ILLEGAL, LOAD_MISALIGNED, MACHINE, RAM_START,
                      STORE_MISALIGNED, SUPERVISOR, USER, wrap)
+from .arithmetic import alu, compare
 
 
 class Plan:
@@ -26,23 +25,15 @@ def raises(cause, tval):
     return Plan("raise", cause=cause, tval=tval)
 
 
-def meaning_of(bits):
-    """The instruction that fetched bits stand for, or None."""
-    if bits & 3 == 3:
-        return decode(bits)
-    word = expand(bits)
-    return None if word is None else decode(word)
-
-
 class Hart:
     """Registers, control registers, mode and pc of one hart."""
 
-    def __init__(self, number):
+    def __init__(self, number, wide=False):
         self.number = number
         self.pc = RAM_START
         self.x = [0] * 32
         self.mode = MACHINE
-        self.csrs = control.Csrs()
+        self.csrs = control.Csrs(wide)
 
     def set_register(self, rd, value):
         """Writes a register other than register 0."""

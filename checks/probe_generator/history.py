@@ -2,7 +2,7 @@
 
 from bisect import bisect_left, insort
 
-from .fields import RAM_START
+from difftest_probes.isa.fields import RAM_START
 
 
 class GrowingImage:

@@ -1,6 +1,6 @@
 """The two made images: one of random words, one of a lock loop under translation."""
 
-from . import assembler as asm
+from difftest_probes.isa import assembler as asm
 from .draws import Draws
 
 ARITHMETIC = ("add", "sub", "sll", "slt", "sltu", "xor", "srl", "sra", "or", "and",
@@ -48,7 +48,7 @@ def _spin_words():
         asm.addi(11, 5, 128), asm.csr("write", 0x341, 0, 11), asm.upper(12, 3, False),
         asm.register_form("add", 12, 12, 5), asm.addi(13, 0, 1), asm.MRET]
     loop = [
-        asm.atomic("swap", 4, 14, 12, 13, aq=1), asm.branch("ne", 14, 0, -4),
+        asm.atomic("swap", 4, 14, 12, 13, asm.AQ), asm.branch("ne", 14, 0, -4),
         asm.load(8, True, 15, 12, 64), asm.addi(15, 15, 1), asm.store(8, 15, 12, 64),
         asm.fence(0, 3, 1), asm.store(4, 0, 12, 0), asm.jal(0, -28)]
     handler = [asm.csr("set", 0xB00, 16, 0), asm.MRET]

@@ -1,12 +1,12 @@
 """A device that takes every liberty that the rules leave: when loads read, when stores drain,
 which moment translates and fetches, and how many records share a cycle."""
 
-from .fields import ALL_ONES, INTERRUPT_CODES, INTERRUPT_FLAG, LINE_BYTES, wrap
+from difftest_probes.isa.fields import ALL_ONES, INTERRUPT_CODES, INTERRUPT_FLAG, LINE_BYTES, wrap
+from difftest_probes.isa.walking import FETCH, cause_of, settle, view_of, walk
+from .files import KIND_OF_NAME
 from .history import History
 from .loose_hart import LooseHart
 from .loose_memory import MemoryAccess
-from .records import Record, csrs_record, regs_record
-from .walking import FETCH, cause_of, settle, view_of, walk
 
 
 class LooseDevice(MemoryAccess):
@@ -15,7 +15,7 @@ class LooseDevice(MemoryAccess):
     def __init__(self, random, harts, image, weaver, manners, slip=None):
         self.random = random
         self.history = History(image, harts)
-        self.harts = [LooseHart(number) for number in range(harts)]
+        self.harts = [LooseHart(number, weaver.wide) for number in range(harts)]
         self.weaver = weaver
         self.manners = manners
         # The rule that this device breaks now and then, if any.
@@ -47,7 +47,7 @@ class LooseDevice(MemoryAccess):
         hart.seq += 1
 
     def _record(self, hart, kind, **body):
-        self._emit(hart, Record(kind, hart.number, self.stamp, **body))
+        self._emit(hart, KIND_OF_NAME[kind](hart.number, self.stamp, **body))
 
     def _retire(self, hart, kind, bits, plan, **body):
         self._record(hart, kind, pc=hart.state.pc, bits=bits, **body)
@@ -81,10 +81,9 @@ class LooseDevice(MemoryAccess):
         kind = self.random.choice(("Regs", "Csrs", "Beat", "Refill", "Refill"))
         state = hart.state
         if kind == "Regs":
-            self._emit(hart, regs_record(hart.number, self.stamp, state.pc, state.x))
+            self._record(hart, kind, pc=state.pc, x=tuple(state.x[1:]))
         elif kind == "Csrs":
-            self._emit(hart, csrs_record(hart.number, self.stamp, state.mode,
-                                         state.csrs.values()))
+            self._record(hart, kind, mode=state.mode, v=tuple(state.csrs.values()))
         elif kind == "Beat":
             self._record(hart, "Beat")
         else:
@@ -93,7 +92,7 @@ class LooseDevice(MemoryAccess):
             data = bytearray(self.history.byte(moment, line + n)[0] for n in range(LINE_BYTES))
             if self._slips("refill"):
                 data[self.random.randrange(LINE_BYTES)] ^= 1
-            self._record(hart, "Refill", line=line, bytes=bytes(data))
+            self._record(hart, "Refill", line=line, content=bytes(data))
 
     def _moment(self, least):
         """A moment from the least one to the greatest visible one; it is used from now on."""
@@ -118,7 +117,7 @@ class LooseDevice(MemoryAccess):
         self.history.add(key, pieces)
         for address, _ in pieces:
             hart.floor[address] = key
-        self._record(hart, "Drain", line=line, mask=mask, count=count, bytes=data)
+        self._record(hart, "Drain", line=line, mask=mask, count=count, content=bytes(data))
 
     def _trap(self, hart, bits, cause, tval):
         if self._slips("tval"):

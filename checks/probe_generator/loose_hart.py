@@ -12,8 +12,8 @@ BORED_AFTER = 60
 class LooseHart:
     """One hart with all that later records depend on."""
 
-    def __init__(self, number):
-        self.state = Hart(number)
+    def __init__(self, number, wide=False):
+        self.state = Hart(number, wide)
         self.number = number
         self.seq = 0
         self.stores = OwnStores()

@@ -1,8 +1,8 @@
 """Loads, stores and atomics of the loose device."""
 
+from difftest_probes.isa.fields import in_ram, line_of, sign_extend
+from difftest_probes.isa.walking import LOAD, STORE, cause_of
 from .arithmetic import amo, extend
-from .fields import in_ram, line_of, sign_extend
-from .walking import LOAD, STORE, cause_of
 
 
 class MemoryAccess:

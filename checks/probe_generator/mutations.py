@@ -1,7 +1,10 @@
 """Small changes of a list of records, most of which a checker must notice."""
 
-from .fields import ALL_ONES, LINE_BYTES, RAM_START
-from .records import LAYOUTS, Record
+from dataclasses import replace
+
+from difftest_probes.isa.fields import ALL_ONES, LINE_BYTES, RAM_START
+from difftest_probes.records import Commit, Load, Trap, record_of
+from .files import KIND_OF_NAME
 
 INTERESTING = (0, 1, 2, 7, 64, 0x80000000, 0x84000000, ALL_ONES, 1 << 63, 0x80002000, 12, 13)
 
@@ -29,9 +32,14 @@ def _pick(random, records, *kinds):
 
 def _replace(records, place, **changes):
     """Puts a changed copy at the place."""
-    record = records[place].copy()
-    record.body.update(changes)
-    records[place] = record
+    records[place] = replace(records[place], **changes)
+
+
+def _moved(record, stamp, step=0):
+    """The record with another stamp; a load's cycle moves by the step, and is never above it."""
+    if isinstance(record, Load):
+        return replace(record, stamp=stamp, at=max(0, min(record.at + step, stamp)))
+    return replace(record, stamp=stamp)
 
 
 def _change(random, records, kinds, name):
@@ -40,10 +48,10 @@ def _change(random, records, kinds, name):
     if place is None:
         return False
     record = records[place]
-    sizes = dict(LAYOUTS[record.kind])
+    sizes = dict(record.numbers)
     if name not in sizes:
         return False
-    _replace(records, place, **{name: _other_number(random, record.body[name], sizes[name])})
+    _replace(records, place, **{name: _other_number(random, getattr(record, name), sizes[name])})
     return True
 
 
@@ -60,7 +68,7 @@ def change_bits(random, records):
     place = _pick(random, records, *RETIRED, "Trap")
     if place is None:
         return False
-    bits = records[place].body["bits"]
+    bits = records[place].bits
     if bits & 3 == 3:
         new = bits ^ 1 << random.randrange(2, 32)
     else:
@@ -76,11 +84,11 @@ def change_byte(random, records):
     place = _pick(random, records, "Drain", "Refill")
     if place is None:
         return False
-    data = bytearray(records[place].body["bytes"])
-    mask = records[place].body.get("mask", ALL_ONES)
+    data = bytearray(records[place].content)
+    mask = getattr(records[place], "mask", ALL_ONES)
     covered = [n for n in range(LINE_BYTES) if mask >> n & 1]
     data[random.choice(covered)] ^= 1 << random.randrange(8)
-    _replace(records, place, bytes=bytes(data))
+    _replace(records, place, content=bytes(data))
     return True
 
 
@@ -89,13 +97,13 @@ def change_mask(random, records):
     place = _pick(random, records, "Drain")
     if place is None:
         return False
-    body = records[place].body
+    record = records[place]
     offset = random.randrange(LINE_BYTES)
-    mask = body["mask"] ^ 1 << offset or 1
-    data = bytearray(body["bytes"])
+    mask = record.mask ^ 1 << offset or 1
+    data = bytearray(record.content)
     for n in range(LINE_BYTES):
         data[n] = data[n] if mask >> n & 1 else 0
-    _replace(records, place, mask=mask, bytes=bytes(data))
+    _replace(records, place, mask=mask, content=bytes(data))
     return True
 
 
@@ -104,7 +112,7 @@ def change_line(random, records):
     place = _pick(random, records, "Drain", "Refill")
     if place is None:
         return False
-    line = records[place].body["line"]
+    line = records[place].line
     new = random.choice((line ^ 64, line ^ 128, RAM_START, 0x83FFFFC0))
     _replace(records, place, line=new)
     return new != line
@@ -117,12 +125,12 @@ def change_load(random, records):
         return False
     record = records[place]
     if random.random() < 0.5:
-        at = random.choice((0, record.stamp, max(record.body["at"] - 1, 0),
+        at = random.choice((0, record.stamp, max(record.at - 1, 0),
                             random.randint(0, record.stamp)))
-        changed = at != record.body["at"]
+        changed = at != record.at
         _replace(records, place, at=at)
         return changed
-    _replace(records, place, value=record.body["value"] ^ 1 << random.randrange(8))
+    _replace(records, place, value=record.value ^ 1 << random.randrange(8))
     return True
 
 
@@ -131,20 +139,20 @@ def change_atomic(random, records):
     place = _pick(random, records, "Atomic")
     if place is None:
         return False
-    body = records[place].body
+    record = records[place]
     sort = random.randrange(5)
     if sort == 0:
-        _replace(records, place, wrote=1 - body["wrote"], value=body["value"] ^ 1,
-                 new=body["new"] if not body["wrote"] else 0)
+        _replace(records, place, wrote=1 - record.wrote, value=record.value ^ 1,
+                 new=record.new if not record.wrote else 0)
     elif sort == 1:
-        _replace(records, place, wrote=1 - body["wrote"], new=0)
-    elif sort == 2 and body["paddr"] % 8 == 0:
-        width = 12 - body["width"]
-        _replace(records, place, width=width, new=body["new"] & ((1 << 8 * width) - 1))
-    elif sort == 3 and body["wrote"]:
-        _replace(records, place, new=body["new"] ^ 1 << random.randrange(8 * body["width"]))
+        _replace(records, place, wrote=1 - record.wrote, new=0)
+    elif sort == 2 and record.paddr % 8 == 0:
+        width = 12 - record.width
+        _replace(records, place, width=width, new=record.new & ((1 << 8 * width) - 1))
+    elif sort == 3 and record.wrote:
+        _replace(records, place, new=record.new ^ 1 << random.randrange(8 * record.width))
     else:
-        _replace(records, place, value=_other_number(random, body["value"], 8))
+        _replace(records, place, value=_other_number(random, record.value, 8))
     return True
 
 
@@ -153,7 +161,7 @@ def change_atomic_place(random, records):
     place = _pick(random, records, "Atomic")
     if place is None:
         return False
-    _replace(records, place, paddr=records[place].body["paddr"] ^ random.choice((8, 64, 4096)))
+    _replace(records, place, paddr=records[place].paddr ^ random.choice((8, 64, 4096)))
     return True
 
 
@@ -162,7 +170,7 @@ def change_count(random, records):
     place = _pick(random, records, "Drain")
     if place is None:
         return False
-    count = records[place].body["count"]
+    count = records[place].count
     other = random.choice((count + 1, max(count - 1, 1), 65535, count + 2))
     _replace(records, place, count=min(other, 65535))
     return True
@@ -174,12 +182,15 @@ def change_registers(random, records):
     if place is None:
         return False
     record = records[place]
-    name, size = random.choice(LAYOUTS[record.kind])
+    numbers = record.numbers
+    name, size = random.choice(numbers)
     if name == "mode":
-        new = random.choice([mode for mode in (0, 1, 3) if mode != record.body["mode"]])
+        new = random.choice([mode for mode in (0, 1, 3) if mode != record.mode])
     else:
-        new = _other_number(random, record.body[name], size)
-    _replace(records, place, **{name: new})
+        new = _other_number(random, dict(zip(dict(numbers), record.values()))[name], size)
+    values = tuple(new if number == name else value
+                   for (number, _), value in zip(numbers, record.values()))
+    records[place] = record_of(type(record), record.hart, record.stamp, values)
     return True
 
 
@@ -188,19 +199,19 @@ def change_trap(random, records):
     place = _pick(random, records, "Trap")
     if place is None:
         return False
-    body = records[place].body
+    record = records[place]
     sort = random.randrange(5)
     if sort == 0:
-        _replace(records, place, tval=_other_number(random, body["tval"], 8))
+        _replace(records, place, tval=_other_number(random, record.tval, 8))
     elif sort == 1:
         code = random.choice((1, 3, 5, 7, 9, 11, 2, 63, 64))
         _replace(records, place, cause=1 << 63 | code, bits=0, tval=0)
     elif sort == 2:
         _replace(records, place, bits=0)
-        return body["bits"] != 0
+        return record.bits != 0
     else:
         causes = [n for n in (1, 2, 3, 4, 5, 6, 7, 8, 9, 11, 12, 13, 15, 0, 10)
-                  if n != body["cause"]]
+                  if n != record.cause]
         _replace(records, place, cause=random.choice(causes))
     return True
 
@@ -211,14 +222,14 @@ def make_trap(random, records):
     if place is None:
         return False
     old = records[place]
-    pc, bits = old.body["pc"], old.body["bits"]
+    pc, bits = old.pc, old.bits
     if old.kind == "Trap":
         if bits & 3 != 3 and bits > 0xFFFF:
             return False
-        records[place] = Record("Commit", old.hart, old.stamp, pc=pc, bits=bits, value=0)
+        records[place] = Commit(old.hart, old.stamp, pc=pc, bits=bits, value=0)
     else:
-        records[place] = Record("Trap", old.hart, old.stamp, pc=pc, bits=bits,
-                                cause=random.choice((2, 3, 4, 5, 8, 12, 13)), tval=0)
+        records[place] = Trap(old.hart, old.stamp, pc=pc, bits=bits,
+                              cause=random.choice((2, 3, 4, 5, 8, 12, 13)), tval=0)
     return True
 
 
@@ -228,15 +239,14 @@ def change_kind(random, records):
     if place is None:
         return False
     old = records[place]
-    body = {"value": 0, "at": old.stamp, "paddr": 0x80002000, "width": 8, "wrote": 0, "new": 0}
-    body.update(old.body)
-    kind = random.choice([kind for kind in RETIRED if kind != old.kind])
-    if body["paddr"] < RAM_START:
-        body["paddr"] = 0x80002000
-    if kind == "Atomic":
-        body["paddr"] &= -8
-    fields = {name: body[name] for name, _ in LAYOUTS[kind]}
-    records[place] = Record(kind, old.hart, old.stamp, **fields)
+    fields = {"value": 0, "at": old.stamp, "paddr": 0x80002000, "width": 8, "wrote": 0, "new": 0}
+    fields.update(zip(dict(old.numbers), old.values()))
+    kind = KIND_OF_NAME[random.choice([kind for kind in RETIRED if kind != old.kind])]
+    if fields["paddr"] < RAM_START:
+        fields["paddr"] = 0x80002000
+    if kind.kind == "Atomic":
+        fields["paddr"] &= -8
+    records[place] = kind(old.hart, old.stamp, *[fields[name] for name, _ in kind.numbers])
     return True
 
 
@@ -254,7 +264,7 @@ def double(random, records):
     place = _pick(random, records, *random.choice(((), ("Drain", "Store", "Beat", "Refill"))))
     if place is None:
         return False
-    records.insert(place, records[place].copy())
+    records.insert(place, records[place])
     return True
 
 
@@ -268,13 +278,9 @@ def swap(random, records):
     later = [n for n in range(place + 1, len(records)) if records[n].hart == first.hart]
     if not later:
         return False
-    second = records[later[0]].copy()
-    first = first.copy()
-    first.stamp, second.stamp = second.stamp, first.stamp
-    for record in (first, second):
-        if "at" in record.body:
-            record.body["at"] = min(record.body["at"], record.stamp)
-    records[place], records[later[0]] = second, first
+    second = records[later[0]]
+    records[place] = _moved(second, first.stamp)
+    records[later[0]] = _moved(first, second.stamp)
     return True
 
 
@@ -283,18 +289,14 @@ def move(random, records):
     place = _pick(random, records, *random.choice(((), ("Drain",), ("Load", "Atomic"))))
     if place is None:
         return False
-    record = records[place].copy()
+    record = records[place]
     own = [n for n, other in enumerate(records) if other.hart == record.hart]
     mine = own.index(place)
     low = records[own[mine - 1]].stamp if mine else 0
     high = records[own[mine + 1]].stamp if mine + 1 < len(own) else record.stamp + 5
     stamp = random.choice((low, min(high, ALL_ONES)))
-    changed = stamp != record.stamp
-    record.stamp = stamp
-    if "at" in record.body:
-        record.body["at"] = min(record.body["at"], stamp)
-    records[place] = record
-    return changed
+    records[place] = _moved(record, stamp)
+    return stamp != record.stamp
 
 
 def shift_hart(random, records):
@@ -306,10 +308,7 @@ def shift_hart(random, records):
         return False
     for place, record in enumerate(records):
         if record.hart == hart:
-            record = records[place] = record.copy()
-            record.stamp += step
-            if "at" in record.body:
-                record.body["at"] = max(0, min(record.body["at"] + step, record.stamp))
+            records[place] = _moved(record, record.stamp + step, step)
     return True
 
 

@@ -1,6 +1,6 @@
 """One hart's own stores, from their record until a drain takes them."""
 
-from .fields import LINE_BYTES, line_of
+from difftest_probes.isa.fields import LINE_BYTES, line_of
 
 
 class OwnStore:

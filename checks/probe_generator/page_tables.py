@@ -1,8 +1,8 @@
 """Table entries that small programs walk and change."""
 
-from .fields import RAM_START, SUPERVISOR
-from .scripts import LEAF_TABLE, MIDDLE_TABLE, ROOT_TABLE
-from .walking import A, D, G, R, U, V, W, X
+from difftest_probes.isa.fields import RAM_START, SUPERVISOR
+from difftest_probes.isa.walking import A, D, G, R, U, V, W, X
+from .scripts import LEAF_TABLE, MIDDLE_TABLE, ROOT_TABLE, TOP_TABLE
 
 IMAGE_PAGES = 6
 CODE_PAGES = 2
@@ -38,6 +38,13 @@ def _odd(random, step):
         leaf(random, 0, False), leaf(random, RAM_START + step // 2, True),
         leaf(random, 0x84000000, False), leaf(random, RAM_START + step, False),
         _pointer(random, 0x84000000), _pointer(random, 0), _pointer(random, ROOT_TABLE)))
+
+
+def top_entry(random, index):
+    """An entry of the table above the root, where there are four levels."""
+    if index in (0, 1, 0x1FF) and random.random() < 0.9:
+        return _pointer(random, ROOT_TABLE)
+    return _odd(random, 1 << 39)
 
 
 def root_entry(random, index, user):
@@ -78,6 +85,8 @@ def entry_for(random, place, mode):
     table = place & ~0xFFF
     if random.random() < 0.15 and index >= CODE_PAGES:
         user = not user
+    if table == TOP_TABLE:
+        return top_entry(random, index)
     if table == ROOT_TABLE:
         return root_entry(random, index, user)
     if table == MIDDLE_TABLE:

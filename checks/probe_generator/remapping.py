@@ -1,11 +1,11 @@
 """Programs that keep changing the entries of a few pages while they use these pages."""
 
-from . import assembler as asm
-from .fields import SUPERVISOR
+from difftest_probes.isa import assembler as asm
+from difftest_probes.isa.fields import SUPERVISOR
+from difftest_probes.isa.walking import A, D, R, U, V, W, X
 from .page_tables import leaf
-from .scripts import (CHUNK_REGISTER, CODE_START, DATA_START, HANDLERS, LEAF_TABLE, constant,
+from .scripts import (CHUNK_REGISTER, CODE_START, DATA_START, HANDLERS, constant,
                       lower_mode, pointer, skip_and_return)
-from .walking import A, D, R, U, V, W, X
 
 # Registers with a fixed use: the first changed entry, the pages, the values of entries.
 ENTRIES, PAGES = 20, (21, 28, 29)

@@ -1,7 +1,7 @@
 """Short runs of instruction words that do one thing, such as making a constant."""
 
-from . import assembler as asm
-from .fields import RAM_START, signed, wrap
+from difftest_probes.isa import assembler as asm
+from difftest_probes.isa.fields import RAM_START, signed, wrap
 
 # The image: main code, handlers, chunks of code that handlers go to in turn, data, tables.
 CODE_START = RAM_START
@@ -10,6 +10,9 @@ HANDLERS = tuple(RAM_START + 0x500 + 0x80 * n for n in range(6))
 DATA_START = RAM_START + 0x2000
 ROOT_TABLE, MIDDLE_TABLE, LEAF_TABLE = (RAM_START + 0x1000 * n for n in (3, 4, 5))
 IMAGE_LIMIT = RAM_START + 0x6000
+# In files with Sv48 the image goes on with a page of zeros, and the table above the root.
+TOP_TABLE = RAM_START + 0x7000
+WIDE_LIMIT = RAM_START + 0x8000
 
 # Registers that keep the address of the next chunk, and the upper bits of all code addresses.
 CHUNK_REGISTER, CODE_REGISTER = 31, 30

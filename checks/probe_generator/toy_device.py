@@ -1,14 +1,14 @@
 """The toy device: a fixed machine whose every choice a seed decides."""
 
-from . import csrs as control
+from difftest_probes.isa import csrs as control
+from difftest_probes.isa.fields import (ALL_ONES, INTERRUPT_FLAG, LINE_BYTES, RAM_END, RAM_START, in_ram, line_of,
+                     sign_extend, wrap)
+from difftest_probes.isa.walking import (FETCH, LOAD, PAGE_FAULT, STORE, canonical, cause_of, find_leaf, permitted,
+                      settle, view_of)
 from .arithmetic import amo, extend
 from .draws import Draws
-from .fields import (ALL_ONES, INTERRUPT_FLAG, LINE_BYTES, RAM_END, RAM_START, in_ram, line_of,
-                     sign_extend, wrap)
+from .files import KIND_OF_NAME
 from .hart import Hart
-from .records import Record, csrs_record, regs_record
-from .walking import (FETCH, LOAD, PAGE_FAULT, STORE, canonical, cause_of, find_leaf, permitted,
-                      settle, view_of)
 
 TIMER = 7
 
@@ -24,8 +24,8 @@ class BufferLine:
 class DeviceHart:
     """One hart of the device with its buffer, translations, reservation and counts."""
 
-    def __init__(self, number):
-        self.state = Hart(number)
+    def __init__(self, number, wide):
+        self.state = Hart(number, wide)
         self.buffer = []
         self.entries = [None] * 16
         self.reserved = None
@@ -41,10 +41,10 @@ class DeviceHart:
 class ToyDevice:
     """Memory and harts; each cycle gives the records of one turn of each hart."""
 
-    def __init__(self, image, harts, seed, fault):
+    def __init__(self, image, harts, seed, fault, wide=False):
         self.ram = bytearray(RAM_END - RAM_START)
         self.ram[:len(image)] = image
-        self.harts = [DeviceHart(number) for number in range(harts)]
+        self.harts = [DeviceHart(number, wide) for number in range(harts)]
         self.draws = Draws(seed)
         self.fault = fault
         self.out = []
@@ -57,7 +57,7 @@ class ToyDevice:
         return self.out
 
     def _record(self, hart, cycle, kind, **body):
-        self.out.append(Record(kind, hart.state.number, cycle, **body))
+        self.out.append(KIND_OF_NAME[kind](hart.state.number, cycle, **body))
 
     def _read(self, address, width):
         start = address - RAM_START
@@ -107,7 +107,7 @@ class ToyDevice:
                 self._write(hart, held.line + place, held.bytes[place:place + 1])
         count = held.count - 1 if self.fault == 4 and held.count > 1 else held.count
         self._record(hart, cycle, "Drain", line=held.line, mask=held.mask, count=count,
-                     bytes=bytes(held.bytes))
+                     content=bytes(held.bytes))
 
     def _translate(self, hart, address, access):
         """The physical address, or a fault, by the entries or by a walk."""
@@ -115,12 +115,13 @@ class ToyDevice:
         view = view_of(state.csrs, state.mode, access)
         if not view.on:
             return address
-        if not canonical(address):
+        if not canonical(address, view.levels):
             return PAGE_FAULT
         number = address >> 12
         entry = hart.entries[number % 16]
         if entry is None or entry[0] != number:
-            found = find_leaf(lambda place: self._read(place, 8), address, view.root)
+            found = find_leaf(lambda place: self._read(place, 8), address, view.root,
+                              view.levels)
             if isinstance(found, str):
                 return found
             leaf, page = found
@@ -149,8 +150,8 @@ class ToyDevice:
         hart.retired += 1
         if hart.retired % 256 == 0:
             state = hart.state
-            self.out.append(regs_record(state.number, cycle, state.pc, state.x))
-            self.out.append(csrs_record(state.number, cycle, state.mode, state.csrs.values()))
+            self._record(hart, cycle, "Regs", pc=state.pc, x=tuple(state.x[1:]))
+            self._record(hart, cycle, "Csrs", mode=state.mode, v=tuple(state.csrs.values()))
 
     def _commit(self, hart, cycle, bits, value, next_pc):
         self._record(hart, cycle, "Commit", pc=hart.state.pc, bits=bits, value=value)

@@ -1,17 +1,17 @@
 """Chooses instructions where a hart fetches from code that nobody has read yet."""
 
-from . import assembler as asm
-from . import csrs as control
+from difftest_probes.isa import assembler as asm
+from difftest_probes.isa import csrs as control
+from difftest_probes.isa.compressed import expand
+from difftest_probes.isa.decoding import decode
+from difftest_probes.isa.fields import INTERRUPT_FLAG, MACHINE, SUPERVISOR, USER
 from . import remapping
-from .compressed import expand
-from .decoding import decode
-from .fields import INTERRUPT_FLAG, MACHINE, SUPERVISOR, USER
 from .flavours import PAGED, TARGETS
 from .page_tables import entry_for
 from .scripts import (CHUNK_REGISTER, CHUNKS_START, CODE_REGISTER, CODE_SHIFT, CODE_START,
                       DATA_START, HANDLERS, IMAGE_LIMIT, LEAF_TABLE, MIDDLE_TABLE, ROOT_TABLE,
-                      constant, lower_mode, near, next_chunk, pointer, return_to_machine,
-                      skip_and_return)
+                      TOP_TABLE, WIDE_LIMIT, constant, lower_mode, near, next_chunk, pointer,
+                      return_to_machine, skip_and_return)
 from .weaves import WEAVES
 
 ALIAS_BASES = (0x80000000, 0x40000000, 0, 0xFFFFFFC000000000, 0xFFFFFFFFC0000000, 0x80200000)
@@ -20,8 +20,10 @@ ALIAS_BASES = (0x80000000, 0x40000000, 0, 0xFFFFFFC000000000, 0xFFFFFFFFC0000000
 class Weaver:
     """The chooser of code and data of one file."""
 
-    def __init__(self, random, flavour, weights):
+    def __init__(self, random, flavour, weights, wide=False):
         self.random = random
+        self.wide = wide
+        self.limit = WIDE_LIMIT if wide else IMAGE_LIMIT
         self.flavour = flavour
         self.names, self.weights = zip(*weights.items())
         self.targets = TARGETS.get(flavour, {"shared": 1})
@@ -91,7 +93,10 @@ class Weaver:
 
     def switch_on(self, rd):
         """Words that write satp so that translation may be on."""
-        value = 8 << 60 | self.random.choice((0, 0, 7)) << 44 | ROOT_TABLE >> 12
+        mode, root = 8, ROOT_TABLE
+        if self.wide and self.random.random() < 0.75:
+            mode, root = 9, TOP_TABLE
+        value = mode << 60 | self.random.choice((0, 0, 7)) << 44 | root >> 12
         return constant(rd, value) + [asm.csr("write", 0x180, 0, rd)]
 
     def _entered(self, state):
@@ -171,12 +176,14 @@ class Weaver:
     def walked(self, place, mode):
         """Notes a table entry that a walk for this mode reads."""
         self.walker = mode
-        if place < IMAGE_LIMIT and place not in self.places:
+        if place < self.limit and place not in self.places:
             self.places.append(place)
 
     def fill(self, start):
         """The value of eight open bytes that somebody reads as data."""
         random = self.random
+        if IMAGE_LIMIT <= start < TOP_TABLE:
+            return 0
         if start >= ROOT_TABLE:
             return entry_for(random, start, self.walker)
         if start < DATA_START:

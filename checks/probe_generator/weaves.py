@@ -1,9 +1,9 @@
 """The sorts of instructions that a weaver can choose, each as a short run of words."""
 
-from . import assembler as asm
-from . import csrs as control
+from difftest_probes.isa import assembler as asm
+from difftest_probes.isa import csrs as control
+from difftest_probes.isa.fields import MACHINE, SUPERVISOR
 from . import remapping
-from .fields import MACHINE, SUPERVISOR
 from .page_tables import entry_for
 from .scripts import HANDLERS, LEAF_TABLE, ROOT_TABLE, constant, lower_mode, pointer
 
@@ -74,19 +74,19 @@ def atomic(weaver, state):
     base = weaver.register()
     words = pointer(state, base, weaver.target(width))
     rd = weaver.any_register()
-    aq, rl = (int(random.random() < 0.25) for _ in range(2))
+    aq, rl = (bit * (random.random() < 0.25) for bit in (asm.AQ, asm.RL))
     sort = random.random()
     if sort < 0.25:
-        return words + [asm.atomic("lr", width, rd, base, 0, aq, rl)]
+        return words + [asm.atomic("lr", width, rd, base, 0, aq | rl)]
     if sort < 0.45:
-        return words + [asm.atomic("sc", width, rd, base, weaver.any_register(), aq, rl)]
+        return words + [asm.atomic("sc", width, rd, base, weaver.any_register(), aq | rl)]
     if sort < 0.65:
         between = load(weaver, state)[-1:] if random.random() < 0.3 else []
-        return (words + [asm.atomic("lr", width, 17, base, 0, aq, 0)] + between
-                + [asm.atomic("sc", random.choice((width, width, 4)), rd, base, 9, 0, rl)])
+        return (words + [asm.atomic("lr", width, 17, base, 0, aq)] + between
+                + [asm.atomic("sc", random.choice((width, width, 4)), rd, base, 9, rl)])
     names = ("swap", "add", "xor", "and", "or", "min", "max", "minu", "maxu")
     return words + [asm.atomic(random.choice(names), width, rd, base, weaver.any_register(),
-                               aq, rl)]
+                               aq | rl)]
 
 
 def fence(weaver, state):
