@@ -1,0 +1,1 @@
+"""Recording programs that run on QEMU: see `difftest_probes.recorder.command`."""
