@@ -1,0 +1,1 @@
+"""Random programs for the example cores."""
