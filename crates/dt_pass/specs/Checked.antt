@@ -1,4 +1,4 @@
-use Rattle.std.specs.Prelude.{ℕ, ◌≡◌, Bool, Option, None, Some, List, length, map, All}
+use Rattle.std.specs.Prelude.{ℕ, ◌≡◌, Bool, Option, None, Some, List, length, map, filter, All}
 use Rattle.std.specs.List.{flat_map, range_with_len}
 use Rattle.dt_record.specs.declared.keys.Key.{Key}
 use Rattle.dt_record.specs.declared.records.Record.{Record}
@@ -17,7 +17,7 @@ use Rattle.dt_verdict.specs.declared.verdicts.Outcome.{Outcome}
 use Rattle.dt_verdict.specs.declared.verdicts.Verdict.{Verdict}
 use Rattle.dt_verdict.specs.declared.verdicts.Verdict.TheVariants.{Pass, Fail}
 use Rattle.dt_verdict.specs.Verdict.{verdict_of, IsVerdict}
-use Rattle.dt_tallies.specs.Counting.{counts_of}
+use Rattle.dt_tallies.specs.Counting.{counts_of, is_below}
 use Rattle.dt_tallies.specs.Naming.{named_notes}
 use Rattle.dt_pass.specs.Reading.{HasCome}
 
@@ -66,6 +66,23 @@ pub record IsChecked (image : List ℕ) (wide : Bool) (harts : ℕ) (records : L
   pub least : IsVerdict (map (outcome_of records) runs) checked.verdict
   pub counts : checked.tallies.harts ≡ map (λ hart. counts_of (limit_of checked.verdict) (records_of hart records)) (range_with_len 0 harts)
   pub notes : checked.tallies.notes ≡ named_notes (limit_of checked.verdict) (flat_map (notes_of records) runs)
+
+-- the notes that these have below a limit are those that a file with these runs has
+abbrev pub AreNotesBelow : Option Key → List Noted → List Record → List HartRun → Type 0
+AreNotesBelow limit notes records runs =
+    filter (λ n. is_below limit n.key) notes ≡ filter (λ n. is_below limit n.key) (flat_map (notes_of records) runs)
+
+-- this is the verdict over all harts of a file with these runs
+pub record IsVerdictOver (records : List Record) (runs : List HartRun) (verdict : Verdict) : Type 0 where
+  pub is : verdict ≡ verdict_of (map (outcome_of records) runs)
+  pub least : IsVerdict (map (outcome_of records) runs) verdict
+
+-- A verdict and notes come to this check: over any image, where the harts' runs have this verdict, and notes that are these
+-- below it.
+abbrev pub ComesTo : (harts : ℕ) → List Record → Verdict → List Noted → Checked → Type 0
+ComesTo harts records verdict notes checked = (image : List ℕ) (wide : Bool) (runs : List HartRun)
+    → AreRuns image wide harts records runs → IsVerdictOver records runs verdict → AreNotesBelow (limit_of verdict) notes records runs
+    → IsChecked image wide harts records checked
 
 -- the check of the records that a stream answered, from no answer to its end
 pub record IsCheckOf (image : List ℕ) (told : Option (List Next)) (p : Progress) (checked : Checked) : Type 0 where

@@ -4,7 +4,7 @@ ghost use Rattle.dt_record.specs.Keys.{records_of};
 ghost use Rattle.dt_record.specs.Streams.{IsFresh, Rose};
 ghost use Rattle.dt_tallies.specs.Counting.{counts_of};
 ghost use Rattle.dt_verdict.specs.declared.answers.Refusal.TheVariants as refusal;
-ghost use Rattle.dt_pass.specs.Checked.{IsCheckOf, IsChecked, limit_of};
+ghost use Rattle.dt_pass.specs.Checked.{ComesTo, IsCheckOf, IsChecked, limit_of};
 ghost use Rattle.dt_pass.specs.Running.{AreJudgeable};
 ghost use Rattle.dt_tallies.specs.Naming.{named_notes};
 ghost use Rattle.dt_pass.specs.Reading.{AreStreamed, IsRefusedAt, refusal_in};
@@ -53,11 +53,27 @@ fn check_over(alloc: Global, m: &Moments, stream: &Listed) -> Result<Checked, Al
     let records = stream.records.as_slice();
     let mut notes = Vec::new(alloc);
     let outcomes = run_all(alloc, m, stream.harts, stream.wide, records, &mut notes)?;
-    let verdict = least(&outcomes);
-    let tallies = tallied(alloc, stream.harts, records, limit_of(&verdict), notes)?;
+    checked(alloc, stream.harts, records, least(&outcomes), notes)
+}
+
+/// What the check of a file's records comes to, from the verdict over all harts and from the notes
+/// of its allowed records, hart 0's first. Behind the failing record of the verdict notes may be
+/// missing. After want of memory the notes are gone.
+pub fn checked(
+    alloc: Global,
+    harts: u8,
+    records: &[Record],
+    verdict: Verdict,
+    notes: Vec<Noted>,
+) -> Result<Checked, AllocError>
+    requires few_harts { harts ≤ 8 }
+    requires few_records { length records.now ≤ 4194304 }
+    ensures { IfOk result (λ checked. ComesTo harts records.now verdict notes.items checked) }
+{
+    let tallies = tallied(alloc, harts, records, limit_of(&verdict), notes)?;
     Ok(Checked {
         verdict,
-        harts: stream.harts,
+        harts,
         tallies,
     })
 }
