@@ -8,16 +8,17 @@ use Rattle.dt_record.specs.declared.streams.Next.{Next}
 use Rattle.dt_record.specs.declared.streams.Next.TheVariants.{Header, Event, End, Malformed, Limit, ReadFault}
 use Rattle.dt_record.specs.Spelling.{Version, end_bytes}
 use Rattle.dt_record.specs.ProbeFile.{IsNext, header_bytes}
-use Rattle.dt_record.specs.Answers.{Reading, opened, header_fault, AreAnswers, after_record, spelled_next, GoesOn, HasRoom, IsBroken, IsTooMany}
+use Rattle.dt_record.specs.Answers.{Reading, opened, header_fault, after_record, spelled_next, GoesOn, HasRoom, IsBroken, IsTooMany}
 use Rattle.dt_record.specs.Streams.{TakesHeader, TakesRecord}
-use Rattle.dt_probe_file.specs.declared.reading.Version.{Version as Form}
+use Rattle.dt_record.specs.declared.spellings.Version.{Version as Form}
 use Rattle.dt_probe_file.specs.declared.reading.Opened.{Opened}
 use Rattle.dt_probe_file.specs.declared.fronts.Front.TheVariants as fronts
 use Rattle.dt_probe_file.specs.declared.headers.Heading.TheVariants as headings
-use Rattle.dt_probe_file.specs.Fronts.{version_of, reading_of, first_too_many, IsFront}
+use Rattle.dt_record.specs.Versions.{version_of}
+use Rattle.dt_probe_file.specs.Fronts.{reading_of, first_too_many, IsFront}
 use Rattle.dt_probe_file.specs.Headers.{IsHeading}
 use Rattle.dt_probe_file.specs.Parts.{whole}
-use Rattle.dt_probe_file.specs.Told.{answers_of, answers_after, answers_left, ended_by, left_of, Takes, progress_of, AreToldOf}
+use Rattle.dt_probe_file.specs.Told.{answers_of, answers_after, ended_by, left_of, Takes, progress_of, AreToldOf}
 use Rattle.dt_probe_file.proofs.Telling.{tell_event, tell_end, tell_malformed, tell_limit, tell_header, tell_fault, of_are}
 
 goes_further : (s : Reading) (held : List ℕ) (r : Record) (len : ℕ) (rest : List ℕ) → IsFront s held (fronts.Event r len) → GoesOn s (held ++ rest) r (drop len held ++ rest)

@@ -1,5 +1,5 @@
 -- How long forms are, and what that and the other laws say of decode2's answer.
-use Rattle.std.proofs.Common.{◌≡◌, ℕ, zero, suc, ◌+◌, ◌-◌, ◌*◌, ◌/◌, ◌%◌, ◌^◌, ◌<◌, ◌≤◌, ◌⊎◌, Bool, true, false, cond, eqb, ltb, List, [], ◌∷◌, ◌++◌, length, get_or, Some, refl, sym, ap, ◌∙◌, arith, inl, inr}
+use Rattle.std.proofs.Common.{◌≡◌, ℕ, zero, suc, ◌+◌, ◌*◌, ◌/◌, ◌%◌, ◌^◌, ◌<◌, ◌≤◌, ◌⊎◌, Bool, true, false, cond, eqb, ltb, List, [], ◌∷◌, ◌++◌, length, get_or, Some, refl, sym, ap, ◌∙◌, arith, inl, inr}
 use Rattle.std.specs.List.{flat_map, AllByRecursion}
 use Rattle.std.proofs.lemmas.Nat.{ones-le}
 use Rattle.std.proofs.lemmas.List.{length-append, append_cancel_left}
@@ -7,8 +7,8 @@ use Rattle.std.proofs.lemmas.List.Concat.{flat_map-cons}
 use Rattle.dt_record.specs.declared.records.Record.{Record}
 use Rattle.dt_record.specs.Spelling.{varint, varint_within, present_bytes, presence, presence_bytes, short_bytes}
 use Rattle.dt_record_bytes.specs.declared.decoded.Decoded.TheVariants as answers
-use Rattle.dt_short_bytes.specs.declared.short_kinds.Kind.{Kind}
-use Rattle.dt_short_bytes.specs.declared.short_kinds.Kind.TheVariants as kinds
+use Rattle.dt_record.specs.declared.kinds.Kind.{Kind}
+use Rattle.dt_record.specs.declared.kinds.Kind.TheVariants as kinds
 use Rattle.dt_short_bytes.specs.ShortForms.{field_count, line_count, Form, form_bytes, FitsForm, IsUnfinished, MayFollow, StartsWith, IsGot, IsBad}
 use Rattle.dt_short_bytes.specs.ShortReading.{record_at, decoded_at}
 use Rattle.dt_short_bytes.specs.ShortGrammar.{IsBytes}

@@ -1,16 +1,17 @@
 -- The pieces of a form one after another, and the form that they are.
-use Rattle.std.proofs.Common.{◌≡◌, ℕ, zero, suc, Bool, true, false, cond, eqb, ◌+◌, ◌-◌, ◌*◌, ◌/◌, ◌%◌, ◌^◌, ◌<◌, ◌≤◌, List, [], ◌∷◌, ◌++◌, length, take, get_or, Result, Ok, Err, refl, sym, ap, subst, ◌∙◌, arith}
+use Rattle.std.proofs.Common.{◌≡◌, ℕ, zero, suc, Bool, true, false, cond, eqb, ◌+◌, ◌*◌, ◌/◌, ◌%◌, ◌^◌, ◌<◌, ◌≤◌, List, [], ◌∷◌, ◌++◌, length, take, get_or, Result, Ok, Err, refl, sym, ap, subst, ◌∙◌, arith}
 use Rattle.std.specs.List.{flat_map}
 use Rattle.std.specs.Prelude.{count_ones}
 use Rattle.std.proofs.lemmas.List.{append_assoc, append-nil, length-append}
 use Rattle.std.proofs.lemmas.Nat.{pow-add}
 use Rattle.dt_record.specs.Lawful.{FitsList}
 use Rattle.dt_record.specs.Spelling.{varint, word, present_bytes, presence, presence_bytes}
-use Rattle.dt_short_bytes.specs.declared.short_kinds.Kind.{Kind}
-use Rattle.dt_short_bytes.specs.declared.short_kinds.Kind.TheVariants as kinds
+use Rattle.dt_record.specs.declared.kinds.Kind.{Kind}
+use Rattle.dt_record.specs.declared.kinds.Kind.TheVariants as kinds
+use Rattle.dt_record.specs.Kinds.{kind_number}
 use Rattle.dt_short_bytes.specs.declared.short_pieces.Stop.{Stop}
 use Rattle.dt_short_bytes.specs.declared.short_pieces.Stop.TheVariants as stops
-use Rattle.dt_short_bytes.specs.ShortForms.{kind_number, field_count, line_count, Form, form_bytes, FitsForm}
+use Rattle.dt_short_bytes.specs.ShortForms.{field_count, line_count, Form, form_bytes, FitsForm}
 use Rattle.dt_short_bytes.specs.ShortReading.{◌>>=◌, Read, kind_at, byte_from, later_at, presence_at, padded, padded_at, line_at, read_at}
 use Rattle.dt_short_bytes.specs.ShortGrammar.{IsBytes, IsBytes-back, Reads, IsFree, IsInhabited, Then, Ends, Ends-reads, Ends-free, Ends-inhabited, Then-free, Then-inhabited, Then-reads}
 use Rattle.dt_short_bytes.specs.ShortVarint.{Later, Later-free, Later-inhabited, later_reads}
