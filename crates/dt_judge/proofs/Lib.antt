@@ -3,6 +3,7 @@ mod EarlierMoments
 mod FirstVisible
 mod LastVisible
 mod LaterFindings
+mod LaterFits
 mod LaterReads
 mod LaterWrites
 mod Leading

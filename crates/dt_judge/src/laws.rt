@@ -3,6 +3,7 @@ ghost use Rattle.dt_judge.specs.Laws.{EarlierMomentsDecide, RecordsHaveOneFindin
 
 use dt_atomics::atomics_have_one_answer;
 use dt_loads::loads_have_one_answer;
+use dt_sources::least_choice_is_least;
 
 /// The judgement of a record is determined by what the record is judged against.
 pub fn records_have_one_finding()
@@ -18,10 +19,11 @@ pub fn earlier_moments_decide()
 {}
 
 /// How far a hart's records are allowed, and why no further, is determined by the records, the
-/// image and the writes: there is but one choice of least moments at the loads.
+/// image and the writes: there is but one least fitting assignment of moments to the loads.
 pub fn runs_have_one_end()
     ensures { RunsHaveOneEnd }
 {
     records_have_one_finding();
     earlier_moments_decide();
+    least_choice_is_least();
 }

@@ -1,5 +1,6 @@
 mod FoundValues
 mod LastVisible
 mod Lines
+mod Moments
 mod NewerWrites
 mod OneAnswer

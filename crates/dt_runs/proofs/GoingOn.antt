@@ -14,7 +14,8 @@ use Rattle.dt_versions.specs.History.{History}
 use Rattle.dt_rules.specs.declared.misfits.Misfit.{Misfit}
 use Rattle.dt_loads.specs.declared.reading.Passed.{Passed}
 use Rattle.dt_reference.specs.HartActions.{action_of, actions_of}
-use Rattle.dt_sources.specs.Choice.{ChoosesLeast, with_moment}
+use Rattle.dt_record.specs.LoadSources.{AreLeastSources}
+use Rattle.dt_sources.specs.Choice.{with_moment}
 use Rattle.dt_hart.specs.HartView.{HartView}
 use Rattle.dt_hart.specs.Settings.{Setting, did, moments_after}
 use Rattle.dt_hart.specs.Standing.{StandsFor}
@@ -69,11 +70,11 @@ setting_there image writes wide hart before more moments n is = ap (λ rs. setti
 
 allowed_push : EarlierMomentsDecide → (image : List ℕ) (writes : List Write) (wide : Bool) (hart : ℕ) (before : List Record) (r : Record) (moments next : ℕ → ℕ) (allowed : List Passed) (p : Passed)
     → length allowed ≡ length before → AgreeAtLoads (actions_of before) moments next → AreAllowed image writes wide hart before moments allowed
-    → Finds (setting_after image writes wide hart before moments) r (Ok p) → ChoosesLeast image writes (actions_of (before ++ r ∷ [])) next
+    → Finds (setting_after image writes wide hart before moments) r (Ok p) → AreLeastSources image writes (actions_of (before ++ r ∷ [])) next
     → AreAllowed image writes wide hart (before ++ r ∷ []) next (allowed ++ p ∷ [])
 allowed_push decide image writes wide hart before r moments next allowed p count agree are finds chosen = record {
   chosen =
-      subst (λ rs. ChoosesLeast image writes (actions_of rs) next)
+      subst (λ rs. AreLeastSources image writes (actions_of rs) next)
       (sym (take_all (length (allowed ++ p ∷ [])) (before ++ r ∷ []) (omega (arith, count, length-append allowed (p ∷ []), length-append before (r ∷ [])))))
       chosen;
   each = λ n q there. elim (at_push allowed p n q there) [
