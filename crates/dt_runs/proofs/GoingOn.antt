@@ -1,5 +1,5 @@
 -- A run goes on by one more record.
-use Rattle.std.proofs.Common.{ℕ, ◌≡◌, ◌<◌, ◌+◌, ◌==◌, Bool, Option, Some, None, List, [], ◌∷◌, ◌++◌, length, take, refl, sym, ap, ◌∙◌, subst, inl, inr, arith, Ok, Err}
+use Rattle.std.proofs.Common.{ℕ, ◌≡◌, ◌<◌, ◌==◌, Bool, Option, Some, None, List, [], ◌∷◌, ◌++◌, length, take, refl, sym, ap, ◌∙◌, subst, inl, inr, arith, Ok, Err}
 use Rattle.std.specs.List.{slice_get}
 use Rattle.std.proofs.lemmas.Bool.{cond-false, ne_eqb}
 use Rattle.std.proofs.lemmas.List.{length-append, take_all, take_at}
@@ -14,7 +14,8 @@ use Rattle.dt_versions.specs.History.{History}
 use Rattle.dt_rules.specs.declared.misfits.Misfit.{Misfit}
 use Rattle.dt_loads.specs.declared.reading.Passed.{Passed}
 use Rattle.dt_reference.specs.HartActions.{action_of, actions_of}
-use Rattle.dt_sources.specs.Choice.{ChoosesLeast, with_moment}
+use Rattle.dt_record.specs.LoadSources.{AreLeastSources}
+use Rattle.dt_sources.specs.Choice.{with_moment}
 use Rattle.dt_hart.specs.HartView.{HartView}
 use Rattle.dt_hart.specs.Settings.{Setting, did, moments_after}
 use Rattle.dt_hart.specs.Standing.{StandsFor}
@@ -69,11 +70,11 @@ setting_there image writes wide hart before more moments n is = ap (λ rs. setti
 
 allowed_push : EarlierMomentsDecide → (image : List ℕ) (writes : List Write) (wide : Bool) (hart : ℕ) (before : List Record) (r : Record) (moments next : ℕ → ℕ) (allowed : List Passed) (p : Passed)
     → length allowed ≡ length before → AgreeAtLoads (actions_of before) moments next → AreAllowed image writes wide hart before moments allowed
-    → Finds (setting_after image writes wide hart before moments) r (Ok p) → ChoosesLeast image writes (actions_of (before ++ r ∷ [])) next
+    → Finds (setting_after image writes wide hart before moments) r (Ok p) → AreLeastSources image writes (actions_of (before ++ r ∷ [])) next
     → AreAllowed image writes wide hart (before ++ r ∷ []) next (allowed ++ p ∷ [])
 allowed_push decide image writes wide hart before r moments next allowed p count agree are finds chosen = record {
   chosen =
-      subst (λ rs. ChoosesLeast image writes (actions_of rs) next)
+      subst (λ rs. AreLeastSources image writes (actions_of rs) next)
       (sym (take_all (length (allowed ++ p ∷ [])) (before ++ r ∷ []) (omega (arith, count, length-append allowed (p ∷ []), length-append before (r ∷ [])))))
       chosen;
   each = λ n q there. elim (at_push allowed p n q there) [
@@ -143,6 +144,11 @@ on_refused old new held r m f none fails refuses is noted writes wide before mor
       finds = subst (λ z. Finds z r (Err m)) (setting_there held.image writes wide hart before (r ∷ []) run.moments (length run.allowed) at.0) finds;
       failure = is ∙ ap (λ n. failure_at (key_of n r) m) (omega (arith, at.0, at.1.seq));
     } in
+    let at_count = setting_there held.image writes wide hart before (r ∷ []) run.moments (length run.allowed) at.0 in
+    let Ends : HartView → Type 0 = λ h.
+    LastFails held.image writes wide h.arch.hart (before ++ r ∷ []) run.moments (length run.allowed) f
+    × StandsFor h (setting_at held.image writes wide h.arch.hart (before ++ r ∷ []) run.moments (length run.allowed)) in
+    let ends : Ends old.hart = (last, subst (λ s. StandsFor old.hart s) at_count at.1) in
     record {
       allowed = run.allowed;
       moments = run.moments;
@@ -151,7 +157,7 @@ on_refused old new held r m f none fails refuses is noted writes wide before mor
           (allowed_longer held.image writes wide hart before (r ∷ []) run.moments run.allowed (omega (arith, at.0)) run.are_allowed);
       ends =
           subst (EndsWith new.hart held.image writes wide (before ++ r ∷ []) run.moments (length run.allowed)) (sym fails)
-          (subst (λ h. LastFails held.image writes wide h (before ++ r ∷ []) run.moments (length run.allowed) f) number last);
+          (subst Ends (sym refuses.stays) ends);
       notes = noted ∙ run.notes ∙ sym (notes_longer 0 before (r ∷ []) run.allowed (omega (arith, at.0)));
     }
 

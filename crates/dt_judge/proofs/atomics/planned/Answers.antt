@@ -35,6 +35,6 @@ returns-after-st-clause-read c =
     let writes = c.args.m.now.writes in
     let said = c.args.said in
     subst
-    (λ (plan : Planned). IfOk c.at_address.result (λ (x : Passed). (actions : List Action) (moments : ℕ → ℕ) → Remembers h writes c.args.key actions moments
+    (λ (plan : Planned). IfOk c.at_address.result (λ (x : Passed). (actions : List Action) (moments : ℕ → ℕ) → Remembers h c.args.m.now c.args.key actions moments
     → IsAccessedBy writes plan c.args.key said.paddr said.width x.sources))
     (sym c.in-NeedsAtomic.is) c.at_address.ensures.read
