@@ -1,3 +1,5 @@
+mod AFinding
+mod AnEnd
 mod AtomicReads
 mod EarlierMoments
 mod FirstVisible
@@ -12,6 +14,7 @@ mod Meeting
 mod OneEnd
 mod OneFinding
 mod Placing
+mod PlannedBy
 mod Readings
 mod SeenActions
 mod Widths

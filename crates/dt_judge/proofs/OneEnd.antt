@@ -21,7 +21,7 @@ use Rattle.dt_judge.proofs.LoadMoments.{least_agree, least_front}
 -- A hart's records are allowed up to one place, and the next one has one reason or none.
 
 -- the actions of the first records begin those of more of them
-actions_front : (seq count longer : ℕ) (records : List Record) → count ≤ longer
+pub actions_front : (seq count longer : ℕ) (records : List Record) → count ≤ longer
     → (more : List Action) × (actions_from seq (take longer records) ≡ actions_from seq (take count records) ++ more)
 actions_front seq zero longer records within = (actions_from seq (take longer records), refl)
 actions_front seq (suc count) zero records within = absurd (omega arith)

@@ -60,7 +60,7 @@ by_cause_width : (a : Arch) (i : Instr) (bits : ℕ) (due : Option ℕ) → (due
 by_cause_width a i bits None access = legal_width a i bits
 by_cause_width a i bits (Some cause) access = absurd (access refl)
 
-means_width : (a : Arch) (bits : ℕ) (plan : Planned) (o : Option Instr) → IsSomeAnd o (λ i. plan ≡ plan_of a i bits) → (due_tag plan ≡ 1 → ⊥) → width_in plan ≡ width_of o
+pub means_width : (a : Arch) (bits : ℕ) (plan : Planned) (o : Option Instr) → IsSomeAnd o (λ i. plan ≡ plan_of a i bits) → (due_tag plan ≡ 1 → ⊥) → width_in plan ≡ width_of o
 means_width a bits plan None means access = absurd means
 means_width a bits plan (Some i) means access =
     ap width_in means ∙ by_cause_width a i bits (due_cause a i) (λ one. access (ap due_tag means ∙ one))

@@ -36,3 +36,14 @@ RunsHaveOneEnd = (image : List ℕ) (writes : List Write) (wide : Bool) (hart : 
     (allowed others : List Passed) (refused other : Option Misfit) → IsTrue (are_in_order writes)
     → RunsTo image writes wide hart records allowed refused → RunsTo image writes wide hart records others other
     → (allowed ≡ others) × (refused ≡ other)
+
+-- Some records of a hart are allowed from the first on, and then all are or the next one has a reason.
+pub record HasEnd (image : List ℕ) (writes : List Write) (wide : Bool) (hart : ℕ) (records : List Record) : Type 0 where
+  pub allowed : List Passed
+  pub refused : Option Misfit
+  pub runs : RunsTo image writes wide hart records allowed refused
+
+-- Over writes that stand in the order of their keys, every hart's records have a run to their end.
+abbrev pub RunsHaveAnEnd : Type 0
+RunsHaveAnEnd = (image : List ℕ) (writes : List Write) (wide : Bool) (hart : ℕ) (records : List Record) → IsTrue (are_in_order writes)
+    → HasEnd image writes wide hart records

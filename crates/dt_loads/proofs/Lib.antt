@@ -1,3 +1,5 @@
+mod AnAnswer
+mod Deciding
 mod FoundValues
 mod LastVisible
 mod Lines

@@ -1,4 +1,4 @@
-use Rattle.std.specs.Prelude.{ℕ, ◌≡◌, ◌≢◌, ◌<◌, ◌+◌, ◌⊎◌, ◌↔◌, Bool, List, Result, Ok, Err, IsTrue, length}
+use Rattle.std.specs.Prelude.{ℕ, ◌≡◌, ◌≢◌, ◌≤◌, ◌<◌, ◌+◌, ◌⊎◌, ◌↔◌, Bool, List, Result, Ok, Err, IsTrue, length}
 use Rattle.dt_record.specs.declared.keys.Key.{Key}
 use Rattle.dt_record.specs.declared.writes.Write.{Write}
 use Rattle.dt_record.specs.declared.accesses.LoadAsk.{LoadAsk}
@@ -100,3 +100,19 @@ abbrev pub LoadsHaveOneAnswer : Type 0
 LoadsHaveOneAnswer = (image : List ℕ) (writes : List Write) (actions : List Action) (moments : ℕ → ℕ) (ask : LoadAsk) (signed : Bool) (value : ℕ) (one other : Result Passed Misfit)
     → HasEightPlaces one → HasEightPlaces other
     → IsLoadAnswer image writes actions moments ask signed value one → IsLoadAnswer image writes actions moments ask signed value other → one ≡ other
+
+-- a load of at most eight bytes has an answer, where the loads before it read at the moments of the least fitting
+-- assignment and the writes stand in the order of their keys
+abbrev pub LoadsHaveAnAnswer : Type 0
+LoadsHaveAnAnswer = (image : List ℕ) (writes : List Write) (actions : List Action) (moments : ℕ → ℕ) (ask : LoadAsk) (signed : Bool) (value : ℕ)
+    → ask.width ≤ 8 → IsTrue (are_in_order writes) → AreLeastSources image writes actions moments
+    → (answer : Result Passed Misfit) × HasEightPlaces answer × IsLoadAnswer image writes actions moments ask signed value answer
+
+-- a key stands above all that a hart knows for a byte
+abbrev pub IsAboveKnown : List Write → List Action → (ℕ → ℕ) → (next : Key) → (byte : ℕ) → Key → Type 0
+IsAboveKnown writes actions moments next byte key = (known : Key) → IsKnownKey writes actions moments next byte known → KeyBelow known key
+
+-- whether it does is decided
+abbrev pub KnownKeysAreDecided : Type 0
+KnownKeysAreDecided = (writes : List Write) (actions : List Action) (moments : ℕ → ℕ) (next : Key) (byte : ℕ) (key : Key)
+    → IsAboveKnown writes actions moments next byte key ⊎ ¬ IsAboveKnown writes actions moments next byte key
