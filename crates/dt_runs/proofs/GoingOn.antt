@@ -1,5 +1,5 @@
 -- A run goes on by one more record.
-use Rattle.std.proofs.Common.{ℕ, ◌≡◌, ◌<◌, ◌+◌, ◌==◌, Bool, Option, Some, None, List, [], ◌∷◌, ◌++◌, length, take, refl, sym, ap, ◌∙◌, subst, inl, inr, arith, Ok, Err}
+use Rattle.std.proofs.Common.{ℕ, ◌≡◌, ◌<◌, ◌==◌, Bool, Option, Some, None, List, [], ◌∷◌, ◌++◌, length, take, refl, sym, ap, ◌∙◌, subst, inl, inr, arith, Ok, Err}
 use Rattle.std.specs.List.{slice_get}
 use Rattle.std.proofs.lemmas.Bool.{cond-false, ne_eqb}
 use Rattle.std.proofs.lemmas.List.{length-append, take_all, take_at}
@@ -144,6 +144,11 @@ on_refused old new held r m f none fails refuses is noted writes wide before mor
       finds = subst (λ z. Finds z r (Err m)) (setting_there held.image writes wide hart before (r ∷ []) run.moments (length run.allowed) at.0) finds;
       failure = is ∙ ap (λ n. failure_at (key_of n r) m) (omega (arith, at.0, at.1.seq));
     } in
+    let at_count = setting_there held.image writes wide hart before (r ∷ []) run.moments (length run.allowed) at.0 in
+    let Ends : HartView → Type 0 = λ h.
+    LastFails held.image writes wide h.arch.hart (before ++ r ∷ []) run.moments (length run.allowed) f
+    × StandsFor h (setting_at held.image writes wide h.arch.hart (before ++ r ∷ []) run.moments (length run.allowed)) in
+    let ends : Ends old.hart = (last, subst (λ s. StandsFor old.hart s) at_count at.1) in
     record {
       allowed = run.allowed;
       moments = run.moments;
@@ -152,7 +157,7 @@ on_refused old new held r m f none fails refuses is noted writes wide before mor
           (allowed_longer held.image writes wide hart before (r ∷ []) run.moments run.allowed (omega (arith, at.0)) run.are_allowed);
       ends =
           subst (EndsWith new.hart held.image writes wide (before ++ r ∷ []) run.moments (length run.allowed)) (sym fails)
-          (subst (λ h. LastFails held.image writes wide h (before ++ r ∷ []) run.moments (length run.allowed) f) number last);
+          (subst Ends (sym refuses.stays) ends);
       notes = noted ∙ run.notes ∙ sym (notes_longer 0 before (r ∷ []) run.allowed (omega (arith, at.0)));
     }
 

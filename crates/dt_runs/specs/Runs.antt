@@ -57,12 +57,13 @@ pub record LastFails (image : List ℕ) (writes : List Write) (wide : Bool) (har
   pub finds : Finds (setting_at image writes wide hart records moments count) own (Err misfit)
   pub failure : f ≡ failure_at (key_of count own) misfit
 
--- how a run over these records ends, so many of which are allowed: all are, and what is kept of the hart stands for them,
--- or the last one is not
+-- How a run over these records ends, so many of which are allowed: all are, or the last one is not. What is kept of the
+-- hart stands for the allowed ones.
 abbrev pub EndsWith : (h : HartView) (image : List ℕ) (writes : List Write) (wide : Bool) (records : List Record) (moments : ℕ → ℕ) (count : ℕ) → Option Failure → Type 0
 EndsWith h image writes wide records moments count None =
     (count ≡ length records) × StandsFor h (setting_after image writes wide h.arch.hart records moments)
-EndsWith h image writes wide records moments count (Some f) = LastFails image writes wide h.arch.hart records moments count f
+EndsWith h image writes wide records moments count (Some f) =
+    LastFails image writes wide h.arch.hart records moments count f × StandsFor h (setting_at image writes wide h.arch.hart records moments count)
 
 -- A run over these first records of its hart, with this image and these writes: they are allowed up to the end, or up to
 -- the last one, which is the failure. What a report says of the allowed ones is noted.
