@@ -11,7 +11,7 @@ ghost use Rattle.dt_traps.specs.Instructions.{atomic_access};
 ghost use Rattle.dt_judge.specs.Keeping.{IsAccessedBy, IsReadIn, Remembers, grounds_kept};
 ghost use Rattle.dt_judge.specs.Kinds.{Accesses, AtomicBy, IsAtomicFinding};
 
-use crate::kinds::{PLAIN, with_p};
+use crate::kinds::{of_another_kind, with_p};
 use crate::spans::{accessed, started};
 use dt_atomics::{AtomicAccess, allowed_atomics_are_exact};
 use dt_checks::Started;
@@ -106,7 +106,7 @@ fn planned(
             };
             at_address(h, m, st.stale || older, key, x)
         }
-        _ => Ok(PLAIN),
+        _ => of_another_kind(7),
     }
 }
 

@@ -11,7 +11,7 @@ ghost use Rattle.dt_sources.specs.Finding.{is_load_place};
 ghost use Rattle.dt_judge.specs.Kinds.{IsLoadFinding, LoadsBy, LoadsRam, ReadsRam, device_finding};
 ghost use Rattle.dt_judge.specs.Keeping.{HasReading, IsPlacedBy, IsReadBy, IsReadIn, Remembers, grounds_kept};
 
-use crate::kinds::{PLAIN, with_p};
+use crate::kinds::{of_another_kind, with_p};
 use crate::spans::{accessed, started};
 use dt_checks::Started;
 use dt_hart::Hart;
@@ -114,7 +114,7 @@ fn loaded(
                 from_device(p, width, signed, value)
             }
         }
-        _ => Ok(PLAIN),
+        _ => of_another_kind(5),
     }
 }
 
