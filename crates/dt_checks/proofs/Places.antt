@@ -1,6 +1,7 @@
 -- A translation keeps the place of an address in its page.
 use Rattle.std.proofs.Common.{◌≡◌, ℕ, zero, suc, ◌+◌, ◌*◌, ◌%◌, Bool, true, false, if◌then◌else◌, List, refl, subst, arith, inl, inr}
 use Rattle.std.specs.Bool.{⊤}
+use Rattle.dt_access.specs.Reaching.{is_reachable, reached}
 use Rattle.dt_alu.specs.Extend.{IsAccessWidth}
 use Rattle.dt_record.specs.declared.writes.Write.{Write}
 use Rattle.dt_walk.specs.declared.arguments.WalkArgs.{WalkArgs}
@@ -8,7 +9,7 @@ use Rattle.dt_walk.specs.declared.arguments.WalkAnswer.{WalkAnswer}
 use Rattle.dt_walk.specs.declared.arguments.WalkAnswer.TheVariants.{Page, PageFault, AccessFault}
 use Rattle.dt_walk.specs.Entry.{is_faulty, is_leaf, table_of}
 use Rattle.dt_walk.specs.Walk.{entry_address, is_canonical, is_in_ram, page_address, walk_from, walk_of}
-use Rattle.dt_translate.specs.Outcomes.{entry_at, is_reachable, outcome_at, reached}
+use Rattle.dt_translate.specs.Outcomes.{entry_at, outcome_at}
 use Rattle.dt_checks.specs.Addresses.{IsPlaceOf}
 
 -- the page address that an answer gives, if any, has the place of this address in its page

@@ -2,6 +2,7 @@
 use Rattle.std.proofs.Common.{◌≡◌, ℕ, zero, suc, ◌+◌, ◌*◌, ◌%◌, Bool, true, false, if◌then◌else◌, List, refl, arith}
 use Rattle.std.specs.Bool.{⊤}
 use Rattle.std.proofs.lemmas.Bool.Decides.{nat_tests}
+use Rattle.dt_access.specs.Reaching.{is_reachable, reached}
 use Rattle.dt_record.specs.declared.writes.Write.{Write}
 use Rattle.dt_walk.specs.declared.arguments.WalkArgs.{WalkArgs}
 use Rattle.dt_walk.specs.declared.arguments.WalkAnswer.{WalkAnswer}
@@ -9,7 +10,7 @@ use Rattle.dt_walk.specs.declared.arguments.WalkAnswer.TheVariants.{Page, PageFa
 use Rattle.dt_walk.specs.Entry.{is_faulty, is_leaf, table_of}
 use Rattle.dt_walk.specs.Walk.{entry_address, is_canonical, is_in_ram, page_address, walk_from, walk_of}
 use Rattle.dt_translate.specs.Fetches.{LeadsToHalf}
-use Rattle.dt_translate.specs.Outcomes.{entry_at, is_reachable, outcome_at, reached}
+use Rattle.dt_translate.specs.Outcomes.{entry_at, outcome_at}
 
 abbrev IsEven : WalkAnswer → Type 0
 IsEven (Page addr) = addr % 2 ≡ 0

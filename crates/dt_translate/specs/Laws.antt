@@ -1,11 +1,12 @@
 use Rattle.std.specs.Prelude.{ℕ, ◌≡◌, ◌≤◌, Bool, false, List, take}
+use Rattle.dt_access.specs.Reaching.{reached}
 use Rattle.dt_record.specs.declared.writes.Write.{Write}
 use Rattle.dt_versions.specs.declared.moments.Span.{Span}
 use Rattle.dt_walk.specs.declared.arguments.WalkArgs.{WalkArgs}
 use Rattle.dt_walk.specs.declared.arguments.WalkAnswer.{WalkAnswer}
 use Rattle.dt_walk.specs.declared.arguments.WalkAnswer.TheVariants.{Page}
 use Rattle.dt_translate.specs.Fetches.{fetch_moments}
-use Rattle.dt_translate.specs.Outcomes.{allowed_moment, half_at, outcome_at, reached}
+use Rattle.dt_translate.specs.Outcomes.{allowed_moment, half_at, outcome_at}
 
 -- Laws of translation over time (this project's own).
 
