@@ -1,12 +1,13 @@
 ghost use Rattle.std.specs.Prelude.{◌≡◌, ◌≤◌, ℕ, List, length, IsTrue, OnOk, IfOk};
 ghost use Rattle.dt_atomics.specs.Asking.{reads};
-ghost use Rattle.dt_checks.specs.Retiring.{AccessesAligned, due_tag};
+ghost use Rattle.dt_checks.specs.Retiring.{due_tag};
 ghost use Rattle.dt_hart.specs.Taking.{ReadsAtKey};
 ghost use Rattle.dt_record.specs.declared.records.Body.TheVariants as body;
 ghost use Rattle.dt_record.specs.Actions.{Action};
 ghost use Rattle.dt_record.specs.Lawful.{is_atomic_place, is_instruction};
 ghost use Rattle.dt_reference.specs.HartActions.{body_action};
 ghost use Rattle.dt_reference.specs.Run.{CanRetire};
+ghost use Rattle.dt_step.specs.Alignment.{AccessesAligned};
 ghost use Rattle.dt_judge.specs.Keeping.{IsAccessedBy, IsReadIn, Remembers, grounds_kept};
 ghost use Rattle.dt_judge.specs.Kinds.{Accesses, AtomicBy, IsAtomicFinding};
 

@@ -6,7 +6,7 @@ ghost use Rattle.dt_translate.specs.Outcomes.{half_at, outcome_at};
 use crate::tables::Tables;
 use dt_access::reached;
 use dt_versions::Moments;
-use dt_walk::{WalkAnswer, WalkArgs, walk};
+use dt_walk::{WalkAnswer, WalkArgs, leaf_decides, walk};
 
 /// The outcome of a translation after the first k writes. It is what the walk answers, unless that
 /// is an address at which there is nothing, or with `ram_only` one outside RAM: the access faults
@@ -30,6 +30,7 @@ pub fn fetch_outcome(moments: &Moments, k: u32, a: WalkArgs) -> WalkAnswer
     ensures value { result ≡ outcome_at moments.now.image moments.now.writes k a true }
     ensures leads { LeadsToHalf result }
 {
+    leaf_decides();
     outcome(moments, k, a, true)
 }
 
