@@ -7,6 +7,7 @@ use Rattle.dt_record.specs.declared.records.Record.{Record}
 use Rattle.dt_record.specs.declared.writes.Write.{Write}
 use Rattle.dt_record.specs.Actions.{Action, Loaded}
 use Rattle.dt_record.specs.Lawful.{is_in_ram}
+use Rattle.dt_access.specs.Translating.{atomic_access}
 use Rattle.dt_atomics.specs.declared.accesses.AtomicAccess.{AtomicAccess}
 use Rattle.dt_atomics.specs.Answers.{AtomicPasses, IsAtomicAnswer}
 use Rattle.dt_atomics.specs.Reading.{ReadsNewer}
@@ -19,7 +20,6 @@ use Rattle.dt_sources.specs.Choice.{then_action, with_moment}
 use Rattle.dt_sources.specs.Knowing.{IsKnownKey}
 use Rattle.dt_step.specs.declared.plans.Planned.{Planned}
 use Rattle.dt_step.specs.declared.plans.Planned.TheVariants.{Done, NeedsLoad, NeedsStore, NeedsAtomic, Csr, Returns, Fences, FenceI, FencesPages, Raises}
-use Rattle.dt_traps.specs.Instructions.{atomic_access}
 use Rattle.dt_walk.specs.declared.arguments.Access.TheVariants as access
 use Rattle.dt_judge.specs.declared.atomics.Said.{Said}
 use Rattle.dt_judge.specs.Grounds.{Grounds, grounds_of}

@@ -12,7 +12,6 @@ use Rattle.dt_record.specs.Lawful.{is_in_ram}
 use Rattle.dt_record.specs.LoadSources.{AreLeastSources}
 use Rattle.dt_atomics.specs.Asking.{reads}
 use Rattle.dt_checks.specs.declared.fetching.FetchSpans.{FetchSpans}
-use Rattle.dt_checks.specs.Retiring.{IsAligned}
 use Rattle.dt_hart.specs.HartView.{HartView}
 use Rattle.dt_hart.specs.Taking.{IsDrained, ReadsAtKey}
 use Rattle.dt_loads.specs.Reading.{IsReading, ask_of}
@@ -21,6 +20,7 @@ use Rattle.dt_reference.specs.HartActions.{body_action}
 use Rattle.dt_sources.specs.Knowing.{AreJudged, Knows}
 use Rattle.dt_step.specs.declared.plans.Planned.{Planned}
 use Rattle.dt_step.specs.declared.plans.Planned.TheVariants.{NeedsLoad, NeedsStore, NeedsAtomic}
+use Rattle.dt_step.specs.Alignment.{IsAligned}
 use Rattle.dt_stores.specs.Standing.{StandsFor as Keeps}
 use Rattle.dt_traps.specs.declared.traps.TrapSpans.{TrapSpans}
 use Rattle.dt_traps.specs.Instructions.{access_address}

@@ -18,13 +18,13 @@ use Rattle.dt_walk.specs.declared.arguments.Access.TheVariants as access
 use Rattle.dt_versions.specs.declared.moments.Span.{Span}
 use Rattle.dt_versions.specs.History.{history}
 use Rattle.dt_versions.specs.Spans.{first_visible, last_visible}
+use Rattle.dt_access.specs.Translating.{atomic_access, walk_args}
 use Rattle.dt_atomics.specs.declared.accesses.AtomicAccess.{AtomicAccess}
 use Rattle.dt_atomics.specs.Answers.{IsAtomicAnswer}
 use Rattle.dt_atomics.specs.Grounds.{AtomicGrounds, atomic_grounds}
 use Rattle.dt_checks.specs.declared.starting.Started.{Started}
 use Rattle.dt_checks.specs.Starting.{start_check}
 use Rattle.dt_checks.specs.Addresses.{address_check}
-use Rattle.dt_checks.specs.Translating.{walk_args}
 use Rattle.dt_commits.specs.Undrained.{undrained_check}
 use Rattle.dt_commits.specs.Values.{commit_value_check}
 use Rattle.dt_drains.specs.Draining.{store_data_check}
@@ -33,7 +33,7 @@ use Rattle.dt_loads.specs.Checks.{device_check, order_check}
 use Rattle.dt_loads.specs.Reading.{HasEightPlaces, IsLoadAnswer, ask_of}
 use Rattle.dt_refills.specs.Refilling.{refill_check}
 use Rattle.dt_traps.specs.declared.traps.TrapSpans.{TrapSpans}
-use Rattle.dt_traps.specs.Instructions.{access_address, atomic_access}
+use Rattle.dt_traps.specs.Instructions.{access_address}
 use Rattle.dt_traps.specs.Traps.{trap_check}
 use Rattle.dt_judge.specs.declared.atomics.Said.{Said}
 use Rattle.dt_judge.specs.Grounds.{Grounds}

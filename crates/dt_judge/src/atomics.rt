@@ -1,27 +1,27 @@
 ghost use Rattle.std.specs.Prelude.{◌≡◌, ◌≤◌, ℕ, List, length, IsTrue, OnOk, IfOk};
 ghost use Rattle.dt_atomics.specs.Asking.{reads};
-ghost use Rattle.dt_checks.specs.Retiring.{AccessesAligned, due_tag};
+ghost use Rattle.dt_checks.specs.Retiring.{due_tag};
 ghost use Rattle.dt_hart.specs.Taking.{ReadsAtKey};
 ghost use Rattle.dt_record.specs.declared.records.Body.TheVariants as body;
 ghost use Rattle.dt_record.specs.Actions.{Action};
 ghost use Rattle.dt_record.specs.Lawful.{is_atomic_place, is_instruction};
 ghost use Rattle.dt_reference.specs.HartActions.{body_action};
 ghost use Rattle.dt_reference.specs.Run.{CanRetire};
-ghost use Rattle.dt_traps.specs.Instructions.{atomic_access};
+ghost use Rattle.dt_step.specs.Alignment.{AccessesAligned};
 ghost use Rattle.dt_judge.specs.Keeping.{IsAccessedBy, IsReadIn, Remembers, grounds_kept};
 ghost use Rattle.dt_judge.specs.Kinds.{Accesses, AtomicBy, IsAtomicFinding};
 
 use crate::kinds::{of_another_kind, with_p};
 use crate::spans::{accessed, started};
+use dt_access::atomic_access;
 use dt_atomics::{AtomicAccess, allowed_atomics_are_exact};
 use dt_checks::Started;
 use dt_hart::Hart;
 use dt_loads::Passed;
 use dt_record::{Key, Retire};
 use dt_rules::Misfit;
-use dt_step::{AtomicOp, Planned};
+use dt_step::Planned;
 use dt_versions::Moments;
-use dt_walk::Access;
 
 /// What the record of an atomic says beside its pc and its bits.
 #[derive(Clone, Copy, Debug, PartialEq, Eq)]
@@ -42,16 +42,6 @@ pub fn said_as(value: u64, paddr: u64, width: u8, wrote: bool, new: u64) -> Said
         width,
         wrote,
         new,
-    }
-}
-
-/// How an atomic's address is translated: that of an LR as a load's, any other as a store's.
-fn access_of(op: AtomicOp) -> Access
-    ensures { result ≡ atomic_access op }
-{
-    match op {
-        AtomicOp::Lr => Access::Load,
-        AtomicOp::Sc | AtomicOp::Amo(_) => Access::Store,
     }
 }
 
@@ -92,7 +82,7 @@ fn planned(
             operand,
             ..
         } => {
-            let older = accessed(h, m, last, access_of(op), true, va, said.paddr)?;
+            let older = accessed(h, m, last, atomic_access(op), true, va, said.paddr)?;
             let x = AtomicAccess {
                 op,
                 width,

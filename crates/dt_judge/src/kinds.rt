@@ -1,13 +1,14 @@
 ghost use Rattle.std.specs.Prelude.{◌≡◌, ◌≤◌, ℕ, List, length, IsTrue, IsOk, OnOk};
 ghost use Rattle.dt_record.specs.Actions.{Action};
 ghost use Rattle.dt_record.specs.Lawful.{are_trap_bits, is_instruction, is_ram_line};
-ghost use Rattle.dt_checks.specs.Retiring.{AccessesAligned, due_tag};
+ghost use Rattle.dt_checks.specs.Retiring.{due_tag};
 ghost use Rattle.dt_drains.specs.Draining.{drain_check};
 ghost use Rattle.dt_hart.specs.Taking.{is_placed_at};
 ghost use Rattle.dt_loads.specs.Reading.{HasEightPlaces};
 ghost use Rattle.dt_reference.specs.Run.{CanRetire};
 ghost use Rattle.dt_refills.specs.Refilling.{refill_check};
 ghost use Rattle.dt_rules.specs.Checks.{and_then};
+ghost use Rattle.dt_step.specs.Alignment.{AccessesAligned};
 ghost use Rattle.dt_stores.specs.Draining.{drain_answer};
 ghost use Rattle.dt_stores.specs.Standing.{StandsFor as Keeps};
 ghost use Rattle.dt_traps.specs.Traps.{trap_check};
