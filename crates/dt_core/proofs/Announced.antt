@@ -1,10 +1,10 @@
 use Rattle.std.proofs.Common.{ℕ, ◌≡◌, ◌+◌, ◌-◌, ◌≤◌, ◌==◌, ◌||◌, ◌⊎◌, Bool, true, false, cond, suc, Option, Some, None, List, [], ◌∷◌, ◌++◌, length, nat_lt, refl, sym, ap, ◌∙◌, subst, inl, inr, arith, eq-eqb, eqb-true}
 use Rattle.std.specs.List.{cons_option}
 use Rattle.std.proofs.lemmas.Bool.Decides.{nat_tests}
-use Rattle.std.specs.Prelude.{option_to_list, slice_index}
+use Rattle.std.specs.Prelude.{option_to_list, slice_index, Contains}
 use Rattle.std.proofs.lemmas.Bool.{cases_Bool, cond-true, cond-false, both_ways, ltb-true, lt-ltb}
 use Rattle.std.proofs.lemmas.List.{append_assoc, append-nil, length-append}
-use Rattle.std.proofs.lemmas.List.Elements.{filter-append, filter_map-append}
+use Rattle.std.proofs.lemmas.List.Elements.{filter-append, filter_map-append, Contains-append_cases, Contains-push_cases}
 use mathlib.Core.List.{IsPrefix}
 use Rattle.dt_record.specs.declared.keys.Key.{Key}
 use Rattle.dt_record.specs.declared.records.Record.{Record}
@@ -16,7 +16,7 @@ use Rattle.dt_record.specs.declared.writes.Note.TheVariants.{Wrote, Mark, End, C
 use Rattle.dt_record.specs.Keys.{records_of}
 use Rattle.dt_record.specs.Writes.{body_write, write_of_record, counted, writes_after}
 use Rattle.dt_core.specs.Notes.{write_in, announced, hart_writes, writes_below}
-use Rattle.dt_record.specs.Marks.{stamp_in, ends, marks_of, mark_of, has_ended}
+use Rattle.dt_record.specs.Marks.{stamp_in, ends, marks_of, mark_of, has_ended, HasMarkAbove}
 use Rattle.dt_core.specs.Sound.{IsAnnounced, writes_by}
 use Rattle.dt_core.proofs.Selection.{filter-pass, filter-drop, filter-narrow, filter-empty}
 
@@ -89,10 +89,10 @@ writes_after-front seqs (x ∷ xs) ys =
 
 -- where an End or the last Mark stands
 
-record StandsAt (note : Note) (notes : List Note) : Type 0 where
-  before : List Note
-  after : List Note
-  split : notes ≡ before ++ note ∷ after
+pub record StandsAt (note : Note) (notes : List Note) : Type 0 where
+  pub before : List Note
+  pub after : List Note
+  pub split : notes ≡ before ++ note ∷ after
 
 StandsAt-behind : (n note : Note) (ns : List Note) → StandsAt note ns → StandsAt note (n ∷ ns)
 StandsAt-behind n note ns place = record { before = n ∷ place.before; after = place.after; split = ap (λ xs. n ∷ xs) place.split }
@@ -108,7 +108,7 @@ second : (b c : Bool) → b ≡ false → (b || c) ≡ true → c ≡ true
 second true c never some = absurd (let bad : ⊥ = cc in bad)
 second false c never some = some
 
-StandsAt-end : (hart : ℕ) (notes : List Note) → has_ended hart notes ≡ true → StandsAt (End hart) notes
+pub StandsAt-end : (hart : ℕ) (notes : List Note) → has_ended hart notes ≡ true → StandsAt (End hart) notes
 StandsAt-end hart [] ended = absurd (let never : ⊥ = cc in never)
 StandsAt-end hart (n ∷ ns) ended = elim (cases_Bool (ends hart n)) [
   | inl here ↦ record { before = []; after = ns; split = ap (λ m. m ∷ ns) (ends-note hart n here) }
@@ -139,7 +139,7 @@ last-behind s m ms =
     ap (slice_index (s ∷ m ∷ ms)) long ∙ ap (slice_index (m ∷ ms)) short
 
 -- the hart's mark is that of a Mark, or there is none
-abbrev HasMark : ℕ → List Note → Type 0
+abbrev pub HasMark : ℕ → List Note → Type 0
 HasMark hart notes = (marks_of hart notes ≡ []) ⊎ StandsAt (Mark hart (mark_of hart notes)) notes
 
 -- the mark after one more note at the front
@@ -163,9 +163,25 @@ HasMark-behind hart n ns (Some s) (m ∷ ms) note some (inr place) =
     (subst (λ (stamp : ℕ). StandsAt (Mark hart stamp) (n ∷ ns)) (ap (λ xs. slice_index xs (length xs - 1)) some ∙ sym (last-behind s m ms))
     (StandsAt-behind n (Mark hart (mark_of hart ns)) ns place))
 
-HasMark-all : (hart : ℕ) (notes : List Note) → HasMark hart notes
+pub HasMark-all : (hart : ℕ) (notes : List Note) → HasMark hart notes
 HasMark-all hart [] = inl refl
 HasMark-all hart (n ∷ ns) = HasMark-behind hart n ns (stamp_in hart n) (marks_of hart ns) refl refl (HasMark-all hart ns)
+
+-- each mark of the hart is that of a Mark
+mark-behind : (hart stamp : ℕ) (n : Note) (ns : List Note) (o : Option ℕ) → stamp_in hart n ≡ o → Contains (cons_option o (marks_of hart ns)) stamp
+    → (Contains (marks_of hart ns) stamp → StandsAt (Mark hart stamp) ns) → StandsAt (Mark hart stamp) (n ∷ ns)
+mark-behind hart stamp n ns None note held rest = StandsAt-behind n (Mark hart stamp) ns (rest held)
+mark-behind hart stamp n ns (Some s) note held rest = elim (Contains-append_cases (s ∷ []) (marks_of hart ns) stamp held) [
+  | inl first ↦ elim (Contains-push_cases [] s stamp first) [
+    | inl none ↦ let never = none.1 in absurd (omega arith)
+    | inr same ↦ record { before = []; after = ns; split = ap (λ m. m ∷ ns) (stamp_in-note hart stamp n (note ∙ ap Some same)) }
+  ]
+  | inr later ↦ StandsAt-behind n (Mark hart stamp) ns (rest later)
+]
+
+StandsAt-mark : (hart stamp : ℕ) (notes : List Note) → Contains (marks_of hart notes) stamp → StandsAt (Mark hart stamp) notes
+StandsAt-mark hart stamp [] held = let never = held.1 in absurd (omega arith)
+StandsAt-mark hart stamp (n ∷ ns) held = mark-behind hart stamp n ns (stamp_in hart n) refl held (StandsAt-mark hart stamp ns)
 
 -- what a front of the history holds of one hart, of which the file's records write so much
 
@@ -232,11 +248,9 @@ below_less : (low high : ℕ) (ws : List Write) → low ≤ high → writes_belo
 below_less low high ws under = filter-narrow (λ (w : Write). nat_lt w.key.stamp low) (λ (w : Write). nat_lt w.key.stamp high) ws
     (λ w less. lt-ltb w.key.stamp high (omega (arith, ltb-true w.key.stamp low less)))
 
-IsFront-marked : (hart : ℕ) (records taken : List Record) (history front : List Note) → IsFront hart records taken history front
-    → StandsAt (Mark hart (mark_of hart front)) front
-    → writes_below (mark_of hart front) (hart_writes hart (announced front)) ≡ writes_below (mark_of hart front) (writes_by records)
-IsFront-marked hart records taken history front is place =
-    let stamp = mark_of hart front in
+IsFront-marked : (hart stamp : ℕ) (records taken : List Record) (history front : List Note) → IsFront hart records taken history front
+    → StandsAt (Mark hart stamp) front → writes_below stamp (hart_writes hart (announced front)) ≡ writes_below stamp (writes_by records)
+IsFront-marked hart stamp records taken history front is place =
     let note = Mark hart stamp in
     let split : history ≡ place.before ++ note ∷ (place.after ++ is.begins.0) =
     sym is.begins.1 ∙ ap (λ xs. xs ++ is.begins.0) place.split ∙ append_assoc place.before (note ∷ place.after) is.begins.0 in
@@ -267,9 +281,19 @@ IsFront-below hart stamp records taken history front is (inr reached) = elim (Ha
   | inr place ↦
       let mark = mark_of hart front in
       sym (below_less stamp mark (hart_writes hart (announced front)) reached)
-      ∙ ap (writes_below stamp) (IsFront-marked hart records taken history front is place)
+      ∙ ap (writes_below stamp) (IsFront-marked hart mark records taken history front is place)
       ∙ below_less stamp mark (writes_by records) reached
 ]
+
+-- and below the next cycle, where the hart has passed this one
+pub IsFront-passed : (hart stamp : ℕ) (records taken : List Record) (history front : List Note) → IsFront hart records taken history front
+    → (has_ended hart front ≡ true) ⊎ HasMarkAbove hart front stamp
+    → writes_below (stamp + 1) (hart_writes hart (announced front)) ≡ writes_below (stamp + 1) (writes_by records)
+IsFront-passed hart stamp records taken history front is (inl ended) = ap (writes_below (stamp + 1)) (IsFront-ended hart records taken history front is ended)
+IsFront-passed hart stamp records taken history front is (inr (mark, held, above)) =
+    sym (below_less (stamp + 1) mark (hart_writes hart (announced front)) (omega arith))
+    ∙ ap (writes_below (stamp + 1)) (IsFront-marked hart mark records taken history front is (StandsAt-mark hart mark front held))
+    ∙ below_less (stamp + 1) mark (writes_by records) (omega arith)
 
 -- of a hart without records a front holds nothing
 pub IsFront-empty : (hart : ℕ) (records taken : List Record) (history front : List Note) → IsFront hart records taken history front

@@ -1,4 +1,4 @@
-use Rattle.std.proofs.Common.{ℕ, ◌≡◌, ◌+◌, ◌-◌, ◌<◌, ◌||◌, ◌⊎◌, Bool, true, false, Option, Some, None, List, [], ◌∷◌, ◌++◌, length, nat_lt, nat_le, zero, suc, refl, sym, ap, ◌∙◌, subst, inl, inr, arith}
+use Rattle.std.proofs.Common.{ℕ, ◌≡◌, ◌+◌, ◌-◌, ◌<◌, ◌||◌, ◌⊎◌, Bool, true, false, Option, Some, None, List, [], ◌∷◌, ◌++◌, length, min, nat_lt, nat_le, zero, suc, refl, sym, ap, ◌∙◌, subst, inl, inr, arith}
 use Rattle.std.specs.List.{slice_get}
 use Rattle.std.proofs.lemmas.Bool.{and_parts, cases_Bool, cases_lt, cond-true, cond-false, both_ways, ltb-true, leb-true, lt-ltb}
 use Rattle.dt_record.specs.declared.records.Record.{Record}
@@ -9,8 +9,9 @@ use Rattle.dt_record.specs.Writes.{by_key}
 use Rattle.dt_versions.specs.History.{writes_until}
 use Rattle.dt_core.specs.Judgements.{Meaning, AreJudged, failure_from}
 use Rattle.dt_core.specs.Machine.{usable_below, usable, has_failed}
-use Rattle.dt_record.specs.Marks.{mark_of, has_ended}
-use Rattle.dt_core.specs.Marks.{least_with, least_mark, CanJudge, can_judge}
+use Rattle.dt_record.specs.Marks.{mark_of, has_ended, least_with, least_mark, CanJudge, can_judge}
+use Rattle.dt_core.specs.Laws.{BelowMarkMayBeJudged}
+use Rattle.dt_core.specs.Marks.{is_below}
 use Rattle.dt_core.specs.Notes.{announced}
 use Rattle.dt_core.proofs.Selection.{filter-narrow}
 
@@ -33,6 +34,33 @@ CanJudge-test (suc n) notes stamp can hart below =
             | inl ended ↦ inl ended
             | inr above ↦ inr (ltb-true stamp (mark_of n notes) above)
           ])
+    ]
+
+-- a cycle below the lesser of two is below each
+lesser-below : (stamp mark : ℕ) (o : Option ℕ) → is_below (Some (least_with mark o)) stamp ≡ true → (stamp < mark) × (is_below o stamp ≡ true)
+lesser-below stamp mark None below = (ltb-true stamp mark below, refl)
+lesser-below stamp mark (Some low) below = let under = ltb-true stamp (min mark low) below in (omega arith, lt-ltb stamp low (omega arith))
+
+-- the marks of the harts below the last one, and its own
+below-last : (n stamp : ℕ) (notes : List Note) → is_below (least_mark (suc n) notes) stamp ≡ true
+    → ((has_ended n notes ≡ true) ⊎ (stamp < mark_of n notes)) × (is_below (least_mark n notes) stamp ≡ true)
+below-last n stamp notes below = elim (cases_Bool (has_ended n notes)) [
+  | inl ended ↦ (inl ended, ap (λ o. is_below o stamp) (sym (cond-true (has_ended n notes) (least_mark n notes) _ ended)) ∙ below)
+  | inr goes_on ↦
+      let parts = lesser-below stamp (mark_of n notes) (least_mark n notes)
+      (ap (λ o. is_below o stamp) (sym (cond-false (has_ended n notes) (least_mark n notes) _ goes_on)) ∙ below) in
+      (inr parts.0, parts.1)
+]
+
+pub BelowMark-judged : BelowMarkMayBeJudged
+BelowMark-judged zero stamp notes below hart within = absurd (omega arith)
+BelowMark-judged (suc n) stamp notes below hart within =
+    let parts = below-last n stamp notes below in
+    elim (cases_lt hart n) [
+      | inl lower ↦ BelowMark-judged n stamp notes parts.1 hart lower
+      | inr last ↦
+          let same : hart ≡ n = omega arith in
+          subst (λ (h : ℕ). (has_ended h notes ≡ true) ⊎ (stamp < mark_of h notes)) (sym same) parts.0
     ]
 
 -- the least mark is above a record that may be judged

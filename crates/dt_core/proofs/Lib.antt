@@ -1,4 +1,4 @@
-mod Announced
+pub mod Announced
 mod Chances
 mod Counterexample
 mod Insertion

@@ -3,6 +3,7 @@ use Rattle.std.specs.List.{slice_get, list_all}
 use Rattle.std.proofs.lemmas.Bool.{and_parts, and_from, cases_Bool}
 use Rattle.std.proofs.lemmas.List.{length-append, length-set, length-replicate, length-take}
 use Rattle.std.proofs.lemmas.List.Sums.{length-filter, count_by-le-length}
+use Rattle.dt_record.specs.declared.limits.TheConstants.{HART_LIMIT, RECORD_LIMIT}
 use Rattle.dt_record.specs.declared.records.Record.{Record}
 use Rattle.dt_record.specs.declared.writes.Write.{Write}
 use Rattle.dt_record.specs.declared.writes.Note.{Note}
@@ -13,7 +14,7 @@ use Rattle.dt_core.specs.declared.steps.CoreStep.{CoreStep}
 use Rattle.dt_core.specs.declared.steps.CoreStep.TheVariants.{Feed, Take, Announce, Look, Judge}
 use Rattle.dt_core.specs.Judgements.{Meaning, ReadsNoLaterWrites, AreJudged}
 use Rattle.dt_core.specs.Machine.{HartState, CoreState, with_hart, feed_next, told, is_true, seen_notes, usable, next_record, judged, judge_next, judge_of, step_state, run_steps, opening_state}
-use Rattle.dt_core.specs.Marks.{can_judge}
+use Rattle.dt_record.specs.Marks.{can_judge}
 use Rattle.dt_core.specs.Notes.{entries_of}
 use Rattle.dt_core.specs.Own.{IsSafe}
 use Rattle.dt_core.specs.Runs.{taken_in, queue_in, HoldsAfter, IsReached}
@@ -78,8 +79,8 @@ IsReached-step m c d s reached is = record {
 pub IsReached-same : {J : Type 0} (m : Meaning J) (c d : CoreState J) → IsReached m c → d ≡ c → IsReached m d
 IsReached-same m c d reached is = subst (λ (e : CoreState _). IsReached m e) (sym is) reached
 
-pub IsReached-start : {J : Type 0} (m : Meaning J) (harts workers : ℕ) (file : List Record) (c : CoreState J) → harts ≤ 8 → 1 ≤ workers → workers ≤ 8
-    → AreRecords harts no_stamps file → length file ≤ 4194304 → c ≡ opening_state m harts workers file → IsReached m c
+pub IsReached-start : {J : Type 0} (m : Meaning J) (harts workers : ℕ) (file : List Record) (c : CoreState J) → harts ≤ HART_LIMIT → 1 ≤ workers → workers ≤ 8
+    → AreRecords harts no_stamps file → length file ≤ RECORD_LIMIT → c ≡ opening_state m harts workers file → IsReached m c
 IsReached-start m harts workers file c few_harts some few each records is = record {
   harts = harts;
   workers = workers;
@@ -133,7 +134,7 @@ judged_few m writes first rs [] last are = omega arith
 judged_few m writes first [] (o ∷ os) last are = absurd are
 judged_few m writes first (r ∷ rs) (o ∷ os) last are = let rest = judged_few m writes (m.after first writes r) rs os last are.2 in omega arith
 
-few_taken : {J : Type 0} (m : Meaning J) (c : CoreState J) (hart : ℕ) (s : HartState J) → ReadsNoLaterWrites m → IsReached m c → slice_get c.harts hart ≡ Some s → length s.taken ≤ 4194304
+few_taken : {J : Type 0} (m : Meaning J) (c : CoreState J) (hart : ℕ) (s : HartState J) → ReadsNoLaterWrites m → IsReached m c → slice_get c.harts hart ≡ Some s → length s.taken ≤ RECORD_LIMIT
 few_taken m c hart s law reached found =
     let kept = kept_of m c law reached in
     let whole : s.taken ++ s.queue ≡ records_of hart (take c.fed reached.file) = ap (λ o. taken_in o ++ queue_in o) (sym found) ∙ kept.kept hart in

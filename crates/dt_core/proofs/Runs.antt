@@ -19,7 +19,7 @@ use Rattle.dt_core.specs.declared.steps.CoreStep.{CoreStep}
 use Rattle.dt_core.specs.declared.steps.CoreStep.TheVariants.{Feed, Take, Announce, Look, Judge}
 use Rattle.dt_core.specs.Judgements.{Meaning, ReadsNoLaterWrites, AreJudged, failure_of}
 use Rattle.dt_core.specs.Machine.{HartState, CoreState, with_hart, queued, feed_next, take_first, take_of, is_mine, news_of, told, has_failed, is_key, last_judged, ends_with, is_true, announce_of, seen_notes, usable, next_record, judged, judge_next, judge_of, step_state, run_steps, new_hart, new_harts, opening_state}
-use Rattle.dt_core.specs.Marks.{CanJudge, can_judge}
+use Rattle.dt_record.specs.Marks.{CanJudge, can_judge}
 use Rattle.dt_core.specs.Notes.{notes_in, entries_of}
 use Rattle.dt_core.specs.Runs.{taken_in, queue_in, lists_of, HoldsAfter, EveryRunHolds}
 use Rattle.dt_core.specs.Sound.{IsSound, writes_by}

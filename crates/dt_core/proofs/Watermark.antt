@@ -12,14 +12,13 @@ use Rattle.dt_record.specs.ProbeFile.{AreRecords, no_stamps, stamped}
 use Rattle.dt_record.specs.Writes.{no_records, writes_after, by_key, writes_of}
 use Rattle.dt_versions.specs.History.{writes_until}
 use Rattle.dt_core.specs.Notes.{announced, hart_writes, writes_below}
-use Rattle.dt_record.specs.Marks.{mark_of, has_ended}
-use Rattle.dt_core.specs.Marks.{least_with, least_mark}
+use Rattle.dt_record.specs.Marks.{mark_of, has_ended, least_with, least_mark, HasPassed}
 use Rattle.dt_core.specs.Sound.{Lists, IsSound, writes_by}
-use Rattle.dt_core.specs.Laws.{HoldsBelow, WritesBelowMarkAreAll, WritesUntilJudgedAreAll}
+use Rattle.dt_core.specs.Laws.{HoldsBelow, WritesBelowMarkAreAll, WritesUntilJudgedAreAll, WritesUntilPassedAreAll}
 use Rattle.dt_core.proofs.Selection.{filter-drop, filter-both}
 use Rattle.dt_core.proofs.Insertion.{filter-by_key}
 use Rattle.dt_core.proofs.Sorting.{by_key-harts}
-use Rattle.dt_core.proofs.Announced.{hart_writes-after, IsFront, IsFront-below, IsFront-ended, IsFront-empty}
+use Rattle.dt_core.proofs.Announced.{hart_writes-after, IsFront, IsFront-below, IsFront-passed, IsFront-ended, IsFront-empty}
 
 -- The watermark law, from what a front of the history holds of each hart.
 
@@ -45,21 +44,36 @@ front_of : (hart : ℕ) (file : List Record) (l : Lists) (front : List Note) →
     → IsFront hart (records_of hart file) (l.taken hart) l.history front
 front_of hart file l front sound begins = record { told = sound.harts hart; first = taken_first hart file l sound; begins = begins }
 
--- a hart of the file has ended or reached the stamp
+-- each hart of the file has ended or reached the stamp
 abbrev HaveReached : ℕ → List Note → ℕ → Type 0
 HaveReached harts notes stamp = (hart : ℕ) → hart < harts → (has_ended hart notes ≡ true) ⊎ (stamp ≤ mark_of hart notes)
 
+-- the notes hold the writes of each of the harts below the stamp
+abbrev HoldEach : ℕ → List Note → List Record → ℕ → Type 0
+HoldEach harts notes file stamp = (hart : ℕ) → hart < harts
+    → writes_below stamp (hart_writes hart (announced notes)) ≡ writes_below stamp (writes_by (records_of hart file))
+
+reached_each : (harts stamp : ℕ) (file : List Record) (l : Lists) (front : List Note)
+    → IsSound file l → IsPrefix front l.history → HaveReached harts front stamp → HoldEach harts front file stamp
+reached_each harts stamp file l front sound begins reached hart below =
+    IsFront-below hart stamp (records_of hart file) (l.taken hart) l.history front (front_of hart file l front sound begins) (reached hart below)
+
+passed_each : (harts stamp : ℕ) (file : List Record) (l : Lists) (front : List Note)
+    → IsSound file l → IsPrefix front l.history → HasPassed harts front stamp → HoldEach harts front file (stamp + 1)
+passed_each harts stamp file l front sound begins passed hart below =
+    IsFront-passed hart stamp (records_of hart file) (l.taken hart) l.history front (front_of hart file l front sound begins) (passed hart below)
+
 hart_below : (harts hart stamp : ℕ) (file : List Record) (l : Lists) (front : List Note)
-    → AreRecords harts no_stamps file → IsSound file l → IsPrefix front l.history → HaveReached harts front stamp
+    → AreRecords harts no_stamps file → IsSound file l → IsPrefix front l.history → HoldEach harts front file stamp
     → hart_writes hart (writes_below stamp (announced front)) ≡ hart_writes hart (writes_below stamp (writes_after no_records file))
-hart_below harts hart stamp file l front each sound begins reached =
+hart_below harts hart stamp file l front each sound begins held_each =
     let under : Write → Bool = λ w. nat_lt w.key.stamp stamp in
     let own : Write → Bool = λ w. w.key.hart == hart in
     let is = front_of hart file l front sound begins in
     let whole = hart_writes-after hart no_records no_records file refl in
     let held : writes_below stamp (hart_writes hart (announced front)) ≡ writes_below stamp (writes_by (records_of hart file)) =
     elim (cases_lt hart harts) [
-      | inl one ↦ IsFront-below hart stamp (records_of hart file) (l.taken hart) l.history front is (reached hart one)
+      | inl one ↦ held_each hart one
       | inr past ↦
           let none = records_of-none harts hart no_stamps file each past in
           ap (writes_below stamp) (IsFront-empty hart (records_of hart file) (l.taken hart) l.history front is none)
@@ -67,15 +81,15 @@ hart_below harts hart stamp file l front each sound begins reached =
     ] in
     filter-both own under (announced front) ∙ held ∙ ap (writes_below stamp) (sym whole) ∙ filter-both under own (writes_after no_records file)
 
--- below a stamp that all harts have reached, a front holds exactly the writes of the file
+-- so the front holds exactly the writes of the file below the stamp
 all_below : (harts stamp : ℕ) (file : List Record) (l : Lists) (front : List Note)
-    → AreRecords harts no_stamps file → IsSound file l → IsPrefix front l.history → HaveReached harts front stamp
+    → AreRecords harts no_stamps file → IsSound file l → IsPrefix front l.history → HoldEach harts front file stamp
     → writes_below stamp (by_key (announced front)) ≡ writes_below stamp (writes_of file)
-all_below harts stamp file l front each sound begins reached =
+all_below harts stamp file l front each sound begins held_each =
     let under : Write → Bool = λ w. nat_lt w.key.stamp stamp in
     filter-by_key under (announced front)
     ∙ by_key-harts (writes_below stamp (announced front)) (writes_below stamp (writes_after no_records file))
-    (λ hart. hart_below harts hart stamp file l front each sound begins reached)
+    (λ hart. hart_below harts hart stamp file l front each sound begins held_each)
     ∙ sym (filter-by_key under (writes_after no_records file))
 
 all_ended : (harts : ℕ) (file : List Record) (l : Lists) (front : List Note)
@@ -149,16 +163,28 @@ WritesBelowMark-all harts file l front each sound begins = by_mark (least_mark h
   where
     by_mark : (o : Option ℕ) → least_mark harts front ≡ o → HoldsBelow o front file
     by_mark None none = all_ended harts file l front each sound begins (least_none harts front none)
-    by_mark (Some least) some = all_below harts least file l front each sound begins (least_some harts front least some)
+    by_mark (Some least) some = all_below harts least file l front each sound begins (reached_each harts least file l front sound begins (least_some harts front least some))
 
 until_below : (stamp : ℕ) (ws : List Write) → writes_until stamp ws ≡ writes_below (stamp + 1) ws
 until_below stamp ws = filter_agree (λ (w : Write). nat_le w.key.stamp stamp) (λ (w : Write). nat_lt w.key.stamp (stamp + 1)) (λ w. grind (arith, nat_tests)) ws
 
+-- up to a cycle, where the writes below the next one are held
+all_until : (harts stamp : ℕ) (file : List Record) (l : Lists) (front : List Note)
+    → AreRecords harts no_stamps file → IsSound file l → IsPrefix front l.history → HoldEach harts front file (stamp + 1)
+    → writes_until stamp (by_key (announced front)) ≡ writes_until stamp (writes_of file)
+all_until harts stamp file l front each sound begins held_each =
+    until_below stamp (by_key (announced front))
+    ∙ all_below harts (stamp + 1) file l front each sound begins held_each
+    ∙ sym (until_below stamp (writes_of file))
+
+pub WritesUntilPassed-all : WritesUntilPassedAreAll
+WritesUntilPassed-all harts file l front stamp each sound begins passed =
+    all_until harts stamp file l front each sound begins (passed_each harts stamp file l front sound begins passed)
+
 pub WritesUntilJudged-all : WritesUntilJudgedAreAll
 WritesUntilJudged-all harts file l front stamp each sound begins can =
-    until_below stamp (by_key (announced front))
-    ∙ all_below harts (stamp + 1) file l front each sound begins (λ hart below. strictly hart (can hart below))
-    ∙ sym (until_below stamp (writes_of file))
+    all_until harts stamp file l front each sound begins
+    (reached_each harts (stamp + 1) file l front sound begins (λ hart below. strictly hart (can hart below)))
   where
     strictly : (hart : ℕ) → (has_ended hart front ≡ true) ⊎ (stamp < mark_of hart front) → (has_ended hart front ≡ true) ⊎ (stamp + 1 ≤ mark_of hart front)
     strictly hart (inl ended) = inl ended

@@ -13,7 +13,7 @@ use Rattle.dt_core.specs.declared.entries.Entry.{Entry}
 use Rattle.dt_core.specs.declared.steps.CoreStep.{CoreStep}
 use Rattle.dt_core.specs.declared.steps.CoreStep.TheVariants.{Feed, Take, Announce, Look, Judge}
 use Rattle.dt_core.specs.Judgements.{Meaning}
-use Rattle.dt_core.specs.Marks.{least_mark, can_judge}
+use Rattle.dt_record.specs.Marks.{least_mark, can_judge}
 use Rattle.dt_core.specs.Notes.{announced, hart_writes, writes_below, notes_in, entries_of}
 use Rattle.dt_core.specs.Sound.{writes_by}
 

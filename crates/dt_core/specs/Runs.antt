@@ -2,6 +2,7 @@
 use Rattle.std.specs.Prelude.{◌≡◌, ℕ, ◌≤◌, Option, Some, None, List, [], ◌∷◌, ◌++◌, length, take}
 use Rattle.std.specs.List.{slice_get}
 use mathlib.Core.List.{IsPrefix}
+use Rattle.dt_record.specs.declared.limits.TheConstants.{HART_LIMIT, RECORD_LIMIT}
 use Rattle.dt_record.specs.declared.keys.Key.{Key}
 use Rattle.dt_record.specs.declared.records.Record.{Record}
 use Rattle.dt_record.specs.declared.writes.Note.{Note}
@@ -13,7 +14,7 @@ use Rattle.dt_core.specs.declared.steps.CoreStep.{CoreStep}
 use Rattle.dt_core.specs.Judgements.{Meaning, AreJudged, failure_of}
 use Rattle.dt_core.specs.Laws.{HoldsBelow}
 use Rattle.dt_core.specs.Machine.{HartState, CoreState, run_steps, opening_state}
-use Rattle.dt_core.specs.Marks.{least_mark}
+use Rattle.dt_record.specs.Marks.{least_mark}
 use Rattle.dt_core.specs.Notes.{notes_in}
 use Rattle.dt_core.specs.Sound.{Lists, IsSound}
 
@@ -58,9 +59,9 @@ pub record IsReached {J : Type 0} (m : Meaning J) (c : CoreState J) : Type 0 whe
   pub workers : ℕ
   pub file : List Record
   pub steps : List CoreStep
-  pub few_harts : harts ≤ 8
+  pub few_harts : harts ≤ HART_LIMIT
   pub some_worker : 1 ≤ workers
   pub few_workers : workers ≤ 8
   pub each : AreRecords harts no_stamps file
-  pub few_records : length file ≤ 4_194_304
+  pub few_records : length file ≤ RECORD_LIMIT
   pub is : c ≡ run_steps m (opening_state m harts workers file) steps

@@ -1,5 +1,5 @@
 //! Laws of the definitions, for the crates above. The functions do nothing.
-ghost use Rattle.dt_core.specs.Laws.{WritesBelowMarkAreAll, WritesUntilJudgedAreAll, WritesUntilMarkAreAll, EqualMarkIsEnough};
+ghost use Rattle.dt_core.specs.Laws.{WritesBelowMarkAreAll, WritesUntilJudgedAreAll, WritesUntilPassedAreAll, BelowMarkMayBeJudged, WritesUntilMarkAreAll, EqualMarkIsEnough};
 ghost use Rattle.dt_core.specs.Runs.{EveryRunHolds};
 
 use crate::judgements::Judgement;
@@ -14,6 +14,16 @@ pub fn writes_below_mark_are_all()
 /// cycle are exactly those of the file.
 pub fn writes_until_judged_are_all()
     ensures { WritesUntilJudgedAreAll }
+{}
+
+/// The same where each hart has passed the record's cycle in the front, by any mark or its end.
+pub fn writes_until_passed_are_all()
+    ensures { WritesUntilPassedAreAll }
+{}
+
+/// A record of a cycle below the least mark may be judged.
+pub fn below_mark_may_be_judged()
+    ensures { BelowMarkMayBeJudged }
 {}
 
 /// After any list of steps from the start: the lists are sound, each front of the history holds the

@@ -20,8 +20,8 @@ mod writes;
 pub use entries::Entry;
 pub use judgements::Judgement;
 pub use laws::{
-    below_is_needed, every_run_holds, strict_mark_is_needed, writes_below_mark_are_all,
-    writes_until_judged_are_all,
+    below_is_needed, below_mark_may_be_judged, every_run_holds, strict_mark_is_needed,
+    writes_below_mark_are_all, writes_until_judged_are_all, writes_until_passed_are_all,
 };
 pub use steps::{CoreStep, Notes};
 pub use worlds::{World, step};

@@ -1,7 +1,7 @@
 //! What notes say of writes, and of how far each hart has come.
 ghost use Rattle.std.specs.Prelude.{◌≡◌, ◌+◌, ◌||◌, nat_lt, IfOk};
-ghost use Rattle.dt_record.specs.Marks.{ends, stamp_in, mark_of, has_ended};
-ghost use Rattle.dt_core.specs.Marks.{mark_with, least_with, least_mark, can_judge};
+ghost use Rattle.dt_record.specs.Marks.{ends, stamp_in, mark_of, has_ended, least_with, least_mark, can_judge};
+ghost use Rattle.dt_core.specs.Marks.{mark_with};
 ghost use Rattle.dt_core.specs.Notes.{announced, notes_in};
 
 use crate::entries::Entry;

@@ -1,5 +1,6 @@
 //! What a worker tells of its harts.
 ghost use Rattle.std.specs.Prelude.{◌≡◌, ◌≤◌, ◌<◌, ◌++◌, ℕ, length, map, take, drop, option_to_list, if◌then◌else◌, IfOk, OnOk, OnErr, IsTrue};
+ghost use Rattle.dt_record.specs.declared.limits.TheConstants.{HART_LIMIT, RECORD_LIMIT};
 ghost use Rattle.dt_record.specs.declared.writes.Note.{Note};
 ghost use Rattle.dt_core.specs.Machine.{HartState, is_mine, reach_of, new_writes, news_of, told};
 ghost use Rattle.dt_core.specs.Notes.{announced, hart_writes, notes_in, entries_of};
@@ -75,7 +76,7 @@ fn news_of<J: Judgement>(
     notes: &[Note],
 ) -> Result<Vec<Note>, AllocError>
     requires own { AreOwn hart state.now.taken }
-    requires few { length state.now.taken ≤ 4194304 }
+    requires few { length state.now.taken ≤ RECORD_LIMIT }
     ensures { IfOk result (λ news. news.items ≡ news_of is_ended hart state.now notes.now) }
 {
     let told = announced_len(alloc, hart, notes)?;
@@ -105,7 +106,7 @@ fn tell_hart<J: Judgement>(
 ) -> Result<(), AllocError>
     requires workers { 1 ≤ by.workers }
     requires own { AreOwn hart state.now.taken }
-    requires few { length state.now.taken ≤ 4194304 }
+    requires few { length state.now.taken ≤ RECORD_LIMIT }
     ensures { OnOk result (history.new.items ≡ (if is_mine by.workers by.worker hart then history.old.items ++ entries_of by.worker (news_of by.is_ended hart state.now (notes_in history.old.items)) else history.old.items)) }
 {
     if is_mine(by.workers, by.worker, hart) {
@@ -132,7 +133,7 @@ pub fn told<J: Judgement>(
     history: &[Entry],
 ) -> Result<Vec<Entry>, AllocError>
     requires workers { 1 ≤ by.workers }
-    requires few { length harts.now ≤ 8 }
+    requires few { length harts.now ≤ HART_LIMIT }
     requires taken { AreTaken harts.now }
     ensures { IfOk result (λ all. all.items ≡ told by.workers by.worker by.is_ended 0 harts.now history.now) }
 {

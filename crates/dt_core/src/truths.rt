@@ -1,11 +1,12 @@
 //! Which cuts and failures are true of the judged records.
 ghost use Rattle.std.specs.Prelude.{◌≡◌, ◌≤◌, length};
 ghost use Rattle.std.specs.List.{prefix_len};
+ghost use Rattle.dt_record.specs.declared.limits.TheConstants.{RECORD_LIMIT};
 ghost use Rattle.dt_core.specs.Machine.{is_crossed, is_key, last_judged, ends_with};
 
 use crate::harts::{Hart, has_failed};
 use crate::judgements::Judgement;
-use dt_record::{Key, Record};
+use dt_record::{Key, Record, key_of};
 
 /// How many records were allowed, up to the first that was not.
 fn passed_len(outcomes: &[bool]) -> usize
@@ -35,23 +36,19 @@ fn is_key(key: Key, other: Option<Key>) -> bool
 
 /// The key of the last judged record.
 fn last_judged<J: Judgement>(state: &Hart<J>) -> Option<Key>
-    requires { length state.now.taken ≤ 4194304 }
+    requires { length state.now.taken ≤ RECORD_LIMIT }
     ensures { result ≡ last_judged state.now }
 {
     let seq = state.outcomes().len().saturating_sub(1);
     match state.taken().get(seq) {
-        Some(event) => Some(Key {
-            stamp: event.stamp,
-            hart: event.hart,
-            seq: seq as u32,
-        }),
+        Some(event) => Some(key_of(event, seq as u32)),
         None => None,
     }
 }
 
 /// The hart's judged records end with a failure at this key.
 pub fn ends_with<J: Judgement>(key: Key, state: &Hart<J>) -> bool
-    requires { length state.now.taken ≤ 4194304 }
+    requires { length state.now.taken ≤ RECORD_LIMIT }
     ensures { result ≡ ends_with key (Some state.now) }
 {
     has_failed(state.outcomes()) && is_key(key, last_judged(state))

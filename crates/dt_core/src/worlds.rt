@@ -1,5 +1,6 @@
 ghost use Rattle.std.specs.Prelude.{◌≡◌, ◌≤◌, ◌<◌, length, filter, Some, IfOk, OnOk, OnErr};
 ghost use Rattle.std.specs.List.{slice_get};
+ghost use Rattle.dt_record.specs.declared.limits.TheConstants.{HART_LIMIT, RECORD_LIMIT, WRITE_LIMIT};
 ghost use Rattle.dt_record.specs.ProbeFile.{AreRecords, no_stamps};
 ghost use Rattle.dt_record.specs.Writes.{writes_memory};
 ghost use Rattle.dt_core.specs.Machine.{HartState, opening_state, step_state};
@@ -38,12 +39,12 @@ impl<J: Judgement> World<J> {
         file: Vec<Record>,
     ) -> Result<World<J>, AllocError>
         requires some_hart { 1 ≤ harts }
-        requires few_harts { harts ≤ 8 }
+        requires few_harts { harts ≤ HART_LIMIT }
         requires some_worker { 1 ≤ workers }
         requires few_workers { workers ≤ 8 }
         requires each { AreRecords harts no_stamps file.items }
-        requires few_records { length file.items ≤ 4194304 }
-        requires few_writes { length (filter writes_memory file.items) ≤ 1048576 }
+        requires few_records { length file.items ≤ RECORD_LIMIT }
+        requires few_writes { length (filter writes_memory file.items) ≤ WRITE_LIMIT }
         ensures { IfOk result (λ world. world ≡ opening_state J.meaning harts workers file.items) }
     {
         let core = Core::start(alloc, harts, workers, file)?;

@@ -1,6 +1,7 @@
 //! Lists of writes.
 ghost use Rattle.std.specs.Prelude.{◌≡◌, ◌≤◌, length, not, IfOk, OnOk};
 ghost use Rattle.std.specs.List.{prefix_len};
+ghost use Rattle.dt_record.specs.declared.limits.TheConstants.{RECORD_LIMIT};
 ghost use Rattle.dt_record.specs.Keys.{key_below};
 ghost use Rattle.dt_record.specs.Writes.{insert_write, by_key};
 ghost use Rattle.dt_core.specs.Machine.{usable_below, usable};
@@ -74,7 +75,7 @@ pub fn usable(alloc: Global, harts: u8, notes: &[Note]) -> Result<Vec<Write>, Al
 /// The writes of one hart's records.
 pub fn writes_by(alloc: Global, hart: u8, records: &[Record]) -> Result<Vec<Write>, AllocError>
     requires own { AreOwn hart records.now }
-    requires few { length records.now ≤ 4194304 }
+    requires few { length records.now ≤ RECORD_LIMIT }
     ensures { IfOk result (λ writes. writes.items ≡ writes_by records.now) }
 {
     let mut writes = Vec::new(alloc);

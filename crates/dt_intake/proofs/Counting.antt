@@ -1,5 +1,6 @@
 use Rattle.std.proofs.Common.{ℕ, ◌≡◌, ◌≤◌, List, [], ◌∷◌, ◌++◌, length, take, sym, ap, ◌∙◌, subst, arith}
 use Rattle.std.specs.Prelude.{All}
+use Rattle.dt_record.specs.declared.limits.TheConstants.{RECORD_LIMIT}
 use Rattle.dt_record.specs.declared.records.Record.{Record}
 use Rattle.dt_record.specs.Lawful.{IsLawful}
 use Rattle.dt_intake.specs.Fronts.{usable_front}
@@ -20,7 +21,7 @@ pub IsCounted-lawful : (hart : ℕ) (taken items : List Record) (n told : ℕ) �
 IsCounted-lawful hart taken items n told counted same =
     subst (λ (rs : List Record). All (λ r. IsLawful r) rs) (sym (IsCounted-front hart taken items n told counted same)) (lawful-front_after hart 0 0 taken)
 
-pub IsCounted-few : (hart : ℕ) (taken items : List Record) (n told : ℕ) → IsCounted hart taken n told → items ≡ taken → length (take n items) ≤ 4194304
+pub IsCounted-few : (hart : ℕ) (taken items : List Record) (n told : ℕ) → IsCounted hart taken n told → items ≡ taken → length (take n items) ≤ RECORD_LIMIT
 IsCounted-few hart taken items n told counted same =
     let size = ap length (IsCounted-front hart taken items n told counted same) in
     let few = length-front_after hart 0 0 taken in

@@ -4,6 +4,7 @@ use Rattle.std.proofs.lemmas.Bool.{cases_Bool, cond-true, cond-false, eqb-false,
 use Rattle.std.proofs.lemmas.List.{append_assoc, append-nil, take-append-drop}
 use Rattle.std.proofs.lemmas.List.Elements.{filter-append}
 use mathlib.Core.List.{IsPrefix}
+use Rattle.dt_record.specs.declared.limits.TheConstants.{RECORD_LIMIT}
 use Rattle.dt_record.specs.declared.records.Record.{Record}
 use Rattle.dt_record.specs.declared.writes.Write.{Write}
 use Rattle.dt_record.specs.Keys.{records_of}
@@ -23,7 +24,7 @@ use Rattle.dt_intake.proofs.WriteLaws.{own_writes_from-append, own_writes_from-p
 
 -- the records of a hart in a file are usable
 front-records_of : (harts hart seq stamp : ℕ) (last : ℕ → ℕ) (rs : List Record) → AreRecords harts last rs → stamp ≡ last hart
-    → seq + length (records_of hart rs) ≤ 4_194_304 → front_after hart seq stamp (records_of hart rs) ≡ records_of hart rs
+    → seq + length (records_of hart rs) ≤ RECORD_LIMIT → front_after hart seq stamp (records_of hart rs) ≡ records_of hart rs
 front-records_of harts hart seq stamp last [] each is few = refl
 front-records_of harts hart seq stamp last (r ∷ rs) each is few = elim (cases_Bool (r.hart == hart)) [
   | inl own ↦
@@ -54,7 +55,7 @@ length-filter p (x ∷ xs) = elim (cases_Bool (p x)) [
   | inr fails ↦ let same = ap length (filter-drop p x xs fails) in let rest = length-filter p xs in omega arith
 ]
 
-usable-records_of : (harts hart : ℕ) (file : List Record) → AreRecords harts no_stamps file → length file ≤ 4_194_304
+usable-records_of : (harts hart : ℕ) (file : List Record) → AreRecords harts no_stamps file → length file ≤ RECORD_LIMIT
     → front_after hart 0 0 (records_of hart file) ≡ records_of hart file
 usable-records_of harts hart file each few =
     let size : length (records_of hart file) ≤ length file = length-filter (λ (r : Record). r.hart == hart) file in

@@ -5,6 +5,7 @@ use Rattle.std.proofs.lemmas.Bool.{and_parts, and_from, both_ways, cases_Bool, c
 use Rattle.std.proofs.lemmas.List.{append-nil, append_cancel_left, length-append, length_push, nil_from_length}
 use Rattle.std.proofs.lemmas.List.Elements.{All-nil, All-cons}
 use mathlib.Core.List.{IsPrefix}
+use Rattle.dt_record.specs.declared.limits.TheConstants.{RECORD_LIMIT}
 use Rattle.dt_record.specs.declared.records.Record.{Record}
 use Rattle.dt_record.specs.Lawful.{is_lawful, IsLawful}
 use Rattle.dt_intake.specs.Fronts.{last_stamp, MayBeNext, may_be_next, AreUsable, front_after, usable_front}
@@ -29,10 +30,10 @@ last_stamp-none stamp rs none = ap (last_stamp stamp) (last-none rs none)
 
 pub MayBeNext-test : (hart seq stamp : ℕ) (r : Record) → may_be_next hart seq stamp r ≡ true → MayBeNext hart seq stamp r
 MayBeNext-test hart seq stamp r passes =
-    let first = and_parts (nat_lt seq 4_194_304) (is_lawful r && ((r.hart == hart) && nat_le stamp r.stamp)) passes in
+    let first = and_parts (nat_lt seq RECORD_LIMIT) (is_lawful r && ((r.hart == hart) && nat_le stamp r.stamp)) passes in
     let second = and_parts (is_lawful r) ((r.hart == hart) && nat_le stamp r.stamp) first.1 in
     let third = and_parts (r.hart == hart) (nat_le stamp r.stamp) second.1 in record {
-      number = ltb-true seq 4_194_304 first.0;
+      number = ltb-true seq RECORD_LIMIT first.0;
       lawful = second.0;
       its = eqb-true r.hart hart third.0;
       in_time = leb-true stamp r.stamp third.1;
@@ -40,7 +41,7 @@ MayBeNext-test hart seq stamp r passes =
 
 pub may_be_next-true : (hart seq stamp : ℕ) (r : Record) → MayBeNext hart seq stamp r → may_be_next hart seq stamp r ≡ true
 may_be_next-true hart seq stamp r next =
-    and_from (nat_lt seq 4_194_304) (is_lawful r && ((r.hart == hart) && nat_le stamp r.stamp)) (lt-ltb seq 4_194_304 next.number)
+    and_from (nat_lt seq RECORD_LIMIT) (is_lawful r && ((r.hart == hart) && nat_le stamp r.stamp)) (lt-ltb seq RECORD_LIMIT next.number)
     (and_from (is_lawful r) ((r.hart == hart) && nat_le stamp r.stamp) next.lawful
     (and_from (r.hart == hart) (nat_le stamp r.stamp) (eq-eqb r.hart hart next.its) (le-leb stamp r.stamp next.in_time)))
 
@@ -65,12 +66,12 @@ front_after-first hart seq stamp (r ∷ rs) = elim (cases_Bool (may_be_next hart
   | inr stops ↦ (r ∷ rs, ap (λ (l : List Record). l ++ r ∷ rs) (front_after-stop hart seq stamp r rs stops))
 ]
 
-pub length-front_after : (hart seq stamp : ℕ) (rs : List Record) → length (front_after hart seq stamp rs) ≤ 4_194_304 - seq
+pub length-front_after : (hart seq stamp : ℕ) (rs : List Record) → length (front_after hart seq stamp rs) ≤ RECORD_LIMIT - seq
 length-front_after hart seq stamp [] = omega arith
 length-front_after hart seq stamp (r ∷ rs) = elim (cases_Bool (may_be_next hart seq stamp r)) [
   | inl passes ↦
       let next = MayBeNext-test hart seq stamp r passes in
-      let few : seq < 4_194_304 = next.number in
+      let few : seq < RECORD_LIMIT = next.number in
       let rest = length-front_after hart (seq + 1) r.stamp rs in
       let more = ap length (front_after-pass hart seq stamp r rs passes) in
       omega arith

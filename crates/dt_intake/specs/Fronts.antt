@@ -1,6 +1,7 @@
 -- Which of the records that were taken for a hart are usable. All of it is this project's own.
 use Rattle.std.specs.Prelude.{◌≡◌, ◌<◌, ◌≤◌, ◌+◌, ◌==◌, ◌&&◌, ℕ, Bool, nat_lt, nat_le, if◌then◌else◌, List, [], ◌∷◌, ◌++◌, length}
 use mathlib.Core.List.{IsPrefix}
+use Rattle.dt_record.specs.declared.limits.TheConstants.{RECORD_LIMIT}
 use Rattle.dt_record.specs.declared.records.Record.{Record}
 use Rattle.dt_record.specs.Lawful.{is_lawful, IsLawful}
 
@@ -11,8 +12,8 @@ last_stamp stamp (r ∷ rs) = last_stamp r.stamp rs
 
 -- a record may be the one with this number of a hart, after one with this stamp
 pub record MayBeNext (hart seq stamp : ℕ) (r : Record) : Type 0 where
-  -- a hart has at most 4,194,304 records
-  pub number : seq < 4_194_304
+  -- a hart has no more records than a file may have
+  pub number : seq < RECORD_LIMIT
   pub lawful : IsLawful r
   pub its : r.hart ≡ hart
   -- no stamp falls
@@ -20,11 +21,12 @@ pub record MayBeNext (hart seq stamp : ℕ) (r : Record) : Type 0 where
 
 -- the same as a test
 abbrev pub may_be_next : ℕ → ℕ → ℕ → Record → Bool
-may_be_next hart seq stamp r = nat_lt seq 4_194_304 && (is_lawful r && ((r.hart == hart) && nat_le stamp r.stamp))
+may_be_next hart seq stamp r = nat_lt seq RECORD_LIMIT && (is_lawful r && ((r.hart == hart) && nat_le stamp r.stamp))
 
 -- each of the records may come next after those before it
 abbrev pub AreUsable : ℕ → List Record → Type 0
-AreUsable hart records = (before after : List Record) (r : Record) → records ≡ before ++ r ∷ after → MayBeNext hart (length before) (last_stamp 0 before) r
+AreUsable hart records = (before after : List Record) (r : Record) → records ≡ before ++ r ∷ after
+    → MayBeNext hart (length before) (last_stamp 0 before) r
 
 -- the longest front of usable records, where so many of the hart come before and the last of these has this stamp
 abbrev pub front_after : ℕ → ℕ → ℕ → List Record → List Record

@@ -2,10 +2,7 @@
 ghost use Rattle.std.specs.Prelude.{◌≡◌, ◌==◌, ◌&&◌, [], ◌∷◌, ◌++◌, length};
 ghost use Rattle.dt_intake.specs.Fronts.{last_stamp, may_be_next, usable_front};
 
-use dt_record::{Record, lawful};
-
-/// How many records of one hart a file may have.
-const RECORD_LIMIT: usize = 4_194_304;
+use dt_record::{RECORD_LIMIT, Record, lawful};
 
 /// The stamp of the last record, and 0 where there is none.
 fn last_stamp(records: &[Record]) -> u64
@@ -21,7 +18,7 @@ fn last_stamp(records: &[Record]) -> u64
 fn may_be_next(hart: u8, seq: usize, stamp: u64, event: &Record) -> bool
     ensures { result ≡ may_be_next hart seq stamp event.now }
 {
-    seq < RECORD_LIMIT && lawful(event) && event.hart == hart && stamp <= event.stamp
+    seq < RECORD_LIMIT as usize && lawful(event) && event.hart == hart && stamp <= event.stamp
 }
 
 /// Whether all taken records are usable, of which there are so many, and this one too after them.

@@ -1,14 +1,14 @@
 ghost use Rattle.std.specs.Prelude.{◌≡◌, ◌<◌, ◌++◌, false, OnOk, OnErr};
 ghost use Rattle.dt_intake.specs.Fronts.{usable_front, AreUsable};
-ghost use Rattle.dt_intake.specs.Intakes.{new_intake, is_feed_end, with_record, is_over, news_of, after_telling};
+ghost use Rattle.dt_intake.specs.Intakes.{new_intake, is_feed_end, with_record, is_over, news_of, has_news, after_telling};
 
 use crate::fronts::usable_len_with;
 use crate::news::add_news;
-use dt_record::{Note, Record};
+use dt_record::{Body, Note, Record};
 use std::alloc::{AllocError, Global};
 use std::marker::Model;
 
-/// The hart of the record that ends a feed. No file has such a hart.
+/// The hart of the Beat that ends a feed. No file has such a hart.
 const FEED_END: u8 = 255;
 
 /// What a worker has taken of one hart, and how much of it it has told.
@@ -22,6 +22,7 @@ pub struct Intake {
     usable_len: usize,
     told: usize,
     ended: bool,
+    end_told: bool,
 }
 
 impl Model for Intake {
@@ -35,6 +36,7 @@ impl Model for Intake {
       taken = s.taken.items;
       ended = s.ended;
       told = s.told;
+      end_told = s.end_told;
       room = vec_capacity s.taken - vec_len s.taken;
     } };
 
@@ -44,7 +46,7 @@ impl Model for Intake {
 fn is_feed_end(event: &Record) -> bool
     ensures { result ≡ is_feed_end event.now }
 {
-    event.hart == FEED_END
+    event.hart == FEED_END && matches!(event.body, Body::Beat)
 }
 
 impl Intake {
@@ -58,6 +60,7 @@ impl Intake {
             usable_len: 0,
             told: 0,
             ended: false,
+            end_told: false,
         }
     }
 
@@ -92,18 +95,30 @@ impl Intake {
         }
     }
 
+    /// Whether there is a usable record that was not told, or an End that was not.
+    pub fn has_news(&self) -> bool
+        ensures { result ≡ has_news self.now }
+    {
+        self.told < self.usable_len || (self.is_over() && !self.end_told)
+    }
+
     /// Puts what there is to tell behind the notes: the writes of the usable records that were not told
-    /// yet, and how far the hart has come.
-    pub fn tell(&mut self, notes: &mut Vec<Note>) -> Result<(), AllocError>
-        ensures appended { OnOk result (notes.new.items ≡ notes.old.items ++ news_of self.old) }
-        ensures told { OnOk result (self.new ≡ after_telling self.old) }
-        ensures unchanged { OnErr result ((notes.new.items ≡ notes.old.items) × (self.new ≡ self.old)) }
+    /// yet, and how far the hart has come. It counts as told once `note_told` says so.
+    pub fn add_news(&self, notes: &mut Vec<Note>) -> Result<(), AllocError>
+        ensures appended { OnOk result (notes.new.items ≡ notes.old.items ++ news_of self.now) }
+        ensures unchanged { OnErr result (notes.new.items ≡ notes.old.items) }
     {
         let over = self.is_over();
         let usable = &self.taken[..self.usable_len];
-        add_news(notes, self.hart, over, self.told, usable)?;
+        add_news(notes, self.hart, over, self.told, usable)
+    }
+
+    /// What there is to tell was told.
+    pub fn note_told(&mut self)
+        ensures { self.new ≡ after_telling self.old }
+    {
+        self.end_told = self.is_over();
         self.told = self.usable_len;
-        Ok(())
     }
 
     /// The records that were taken and may be judged.

@@ -1,9 +1,14 @@
 //! Laws of the definitions, for the crates above. The functions do nothing.
-ghost use Rattle.dt_intake.specs.Laws.{UsableFrontIsLongest, FileRecordsAreUsable, NothingIsTold, TakingKeepsTold, RoomKeepsTold, TellingGoesOn, OwnNotesDecide, NewsIsOfOneHart, ToldIsAnnounced};
+ghost use Rattle.dt_intake.specs.Laws.{UsableFrontIsLongest, UsableFrontGrows, FileRecordsAreUsable, NothingIsTold, TakingKeepsTold, RoomKeepsTold, TellingGoesOn, OwnNotesDecide, NewsIsOfOneHart, ToldIsAnnounced};
 
 /// The usable records are the longest front of the taken ones in which each may come next.
 pub fn usable_front_is_longest()
     ensures { UsableFrontIsLongest }
+{}
+
+/// The usable records stay usable as more are taken.
+pub fn usable_front_grows()
+    ensures { UsableFrontGrows }
 {}
 
 /// Where what was taken of a hart is a front of its records in a file, all of it is usable.

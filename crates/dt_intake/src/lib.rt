@@ -12,6 +12,6 @@ mod tests;
 pub use intakes::Intake;
 pub use laws::{
     file_records_are_usable, news_is_of_one_hart, nothing_is_told, own_notes_decide,
-    room_keeps_told, taking_keeps_told, telling_goes_on, told_is_announced,
+    room_keeps_told, taking_keeps_told, telling_goes_on, told_is_announced, usable_front_grows,
     usable_front_is_longest,
 };

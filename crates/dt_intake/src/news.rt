@@ -1,5 +1,6 @@
 //! The notes that tell of a hart.
 ghost use Rattle.std.specs.Prelude.{◌≡◌, ◌≤◌, ◌<◌, ◌+◌, ◌++◌, length, map, option_to_list, vec_len, vec_capacity, All, OnOk, OnErr};
+ghost use Rattle.dt_record.specs.declared.limits.TheConstants.{RECORD_LIMIT};
 ghost use Rattle.dt_record.specs.declared.writes.Note.{Note};
 ghost use Rattle.dt_record.specs.Lawful.{IsLawful};
 ghost use Rattle.dt_record.specs.Writes.{write_of_record};
@@ -25,7 +26,7 @@ fn add_write(notes: &mut Vec<Note>, event: &Record, seq: u32)
 /// Tells the writes of records of a hart, the first of which has this number.
 fn add_writes(notes: &mut Vec<Note>, first: usize, records: &[Record])
     requires lawful { All (λ r. IsLawful r) records.now }
-    requires few { first + length records.now ≤ 4194304 }
+    requires few { first + length records.now ≤ RECORD_LIMIT }
     requires room { vec_len notes.old + length records.now < vec_capacity notes.old }
     ensures added { notes.new.items ≡ notes.old.items ++ map Note.Wrote (own_writes_from first records.now) }
     ensures room { vec_len notes.new < vec_capacity notes.new }
@@ -71,7 +72,7 @@ pub fn add_news(
     usable: &[Record],
 ) -> Result<(), AllocError>
     requires lawful { All (λ r. IsLawful r) usable.now }
-    requires few { length usable.now ≤ 4194304 }
+    requires few { length usable.now ≤ RECORD_LIMIT }
     requires within { told ≤ length usable.now }
     ensures added { OnOk result (notes.new.items ≡ notes.old.items ++ news_from hart over told usable.now) }
     ensures unchanged { OnErr result (notes.new.items ≡ notes.old.items) }

@@ -1,8 +1,4 @@
-use crate::{
-    Intake, file_records_are_usable, news_is_of_one_hart, nothing_is_told, own_notes_decide,
-    room_keeps_told, taking_keeps_told, telling_goes_on, told_is_announced,
-    usable_front_is_longest,
-};
+use crate::Intake;
 use dt_record::{Body, Key, Note, Record, Write};
 use std::alloc::{AllocError, Global};
 use std::test::Fail;
@@ -52,9 +48,15 @@ fn take_all(intake: &mut Intake, records: &[Record]) -> Result<(), AllocError> {
     Ok(())
 }
 
+fn tell(intake: &mut Intake, notes: &mut Vec<Note>) -> Result<(), AllocError> {
+    intake.add_news(notes)?;
+    intake.note_told();
+    Ok(())
+}
+
 fn told(alloc: Global, intake: &mut Intake) -> Result<Vec<Note>, AllocError> {
     let mut notes = Vec::new(alloc);
-    intake.tell(&mut notes)?;
+    tell(intake, &mut notes)?;
     Ok(notes)
 }
 
@@ -65,12 +67,14 @@ fn tells_writes_once_and_then_the_end(rt: HostRuntime) -> Result<(), Fail> {
     let mut intake = Intake::new(alloc, 1);
     let mut notes = told(alloc, &mut intake)?;
     assert_eq!(rt; notes.len(), 0);
+    assert!(rt; !intake.has_news());
     let beat = record(3, 1, Body::Beat);
     take_all(&mut intake, &[beat, record(5, 1, DRAIN)])?;
-    intake.tell(&mut notes)?;
+    assert!(rt; intake.has_news());
+    tell(&mut intake, &mut notes)?;
     let mark = Note::Mark { hart: 1, stamp: 5 };
     assert_eq!(rt; notes.as_slice(), [wrote(5, 1, 1), mark].as_slice());
-    intake.tell(&mut notes)?;
+    tell(&mut intake, &mut notes)?;
     assert_eq!(rt; notes.as_slice(), [wrote(5, 1, 1), mark, mark].as_slice());
     let last = record(9, 1, DRAIN);
     take_all(&mut intake, &[record(5, 1, Body::Beat), last])?;
@@ -80,6 +84,7 @@ fn tells_writes_once_and_then_the_end(rt: HostRuntime) -> Result<(), Fail> {
     let end = Note::End { hart: 1 };
     let news = told(alloc, &mut intake)?;
     assert_eq!(rt; news.as_slice(), [wrote(9, 1, 3), end].as_slice());
+    assert!(rt; !intake.has_news());
     assert_eq!(rt; intake.usable().len(), 4);
     assert_eq!(rt; intake.hart(), 1);
     let taken = intake.into_taken();
@@ -96,6 +101,7 @@ fn tells_nothing_from_an_unusable_record_on(rt: HostRuntime) -> Result<(), Fail>
         record(7, 0, DRAIN),
         record(4, 1, DRAIN),
         record(7, 1, EMPTY_DRAIN),
+        record(7, 255, DRAIN),
     ];
     for (place, event) in unusable.iter().enumerate() {
         let mut intake = Intake::new(alloc, 1);
@@ -112,15 +118,18 @@ fn tells_nothing_from_an_unusable_record_on(rt: HostRuntime) -> Result<(), Fail>
     Ok(())
 }
 
+/// An End is news until it was told, also where no record is.
 #[test]
-fn laws_can_be_called(_rt: HostRuntime) {
-    usable_front_is_longest();
-    file_records_are_usable();
-    nothing_is_told();
-    taking_keeps_told();
-    room_keeps_told();
-    telling_goes_on();
-    own_notes_decide();
-    news_is_of_one_hart();
-    told_is_announced();
+fn an_end_is_told_once(rt: HostRuntime) -> Result<(), Fail> {
+    let alloc = rt.alloc();
+    let mut intake = Intake::new(alloc, 1);
+    take_all(&mut intake, &[record(5, 1, Body::Beat)])?;
+    told(alloc, &mut intake)?;
+    assert!(rt; !intake.has_news());
+    take_all(&mut intake, &[FEED_END])?;
+    assert!(rt; intake.has_news());
+    let news = told(alloc, &mut intake)?;
+    assert_eq!(rt; news.as_slice(), [Note::End { hart: 1 }].as_slice());
+    assert!(rt; !intake.has_news());
+    Ok(())
 }

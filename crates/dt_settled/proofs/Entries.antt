@@ -1,12 +1,12 @@
-use Rattle.std.proofs.Common.{◌≡◌, true, false, List, [], ◌∷◌, map, refl, sym, ap, ◌∙◌, inl, inr, arith}
+use Rattle.std.proofs.Common.{◌≡◌, ◌&&◌, Bool, true, false, not, is_some, Option, Some, List, [], ◌∷◌, map, cond, refl, sym, ap, ◌∙◌, inl, inr, arith}
 use Rattle.std.specs.List.{list_all, AllByRecursion}
 use Rattle.std.specs.List.Sorted.{IsStrictlySortedBy}
-use Rattle.std.specs.Map.{keys_of, values_of}
-use Rattle.std.specs.BTreeMap.{insert_entry}
+use Rattle.std.specs.Map.{keys_of, values_of, lookup}
+use Rattle.std.specs.BTreeMap.{insert_entry, is_at}
 use Rattle.std.specs.declared.cmp.Ordering.{Ordering}
 use Rattle.std.specs.declared.cmp.Ordering.TheVariants.{Less, Equal, Greater}
-use Rattle.std.specs.Ordering.{is_lt, is_gt, match_ordering}
-use Rattle.std.proofs.lemmas.Bool.{and_parts, and_from, or_from, both_ways}
+use Rattle.std.specs.Ordering.{is_eq, is_lt, is_gt, match_ordering}
+use Rattle.std.proofs.lemmas.Bool.{and_parts, and_from, or_from, or_left, or_right, both_ways}
 use Rattle.std.proofs.lemmas.Bool.Decides.{nat_tests}
 use Rattle.std.proofs.lemmas.Map.Keys.{sorted_head, sorted_tail}
 use Rattle.dt_record.specs.declared.keys.Key.{Key}
@@ -91,6 +91,29 @@ values-insert w (e ∷ es) keyed apart =
     let this = under e es keyed in
     let parts = and_parts (keys_differ w.key e.1.key) (list_all (λ (v : Write). keys_differ w.key v.key) (values_of es)) apart in
     values-placed w e es this.0 parts.0 (values-insert w es this.1 parts.1) (ghosts.cmp w.key e.0) refl
+
+-- whether a map holds the key of a write: some waiting write has it
+
+found-at : (w : Write) (e : Key × Write) (rest : Option Write) (apart : Bool) → e.0 ≡ e.1.key → is_some rest ≡ not apart
+    → (o : Ordering) → ghosts.cmp w.key e.0 ≡ o → is_some (cond (is_at (ghosts.cmp w.key) e.0) (Some e.1) rest) ≡ not (keys_differ w.key e.1.key && apart)
+found-at w e rest apart head later Equal is =
+    let same : w.key ≡ e.1.key = cmp-equal w.key e.0 is ∙ head in
+    let none : keys_differ w.key e.1.key ≡ false = ap (keys_differ w.key) (sym same) ∙ differs-itself w.key in
+    ap (λ o. is_some (cond (is_eq o) (Some e.1) rest)) is ∙ sym (ap (λ b. not (b && apart)) none)
+found-at w e rest apart head later Less is =
+    let below : key_below w.key e.1.key ≡ true = ap (key_below w.key) (sym head) ∙ sym (cmp-below w.key e.0) ∙ ap is_lt is in
+    ap (λ o. is_some (cond (is_eq o) (Some e.1) rest)) is ∙ later ∙ sym (ap (λ b. not (b && apart)) (or_left (key_below w.key e.1.key) (key_below e.1.key w.key) below))
+found-at w e rest apart head later Greater is =
+    let above : key_below e.1.key w.key ≡ true = ap (λ (k : Key). key_below k w.key) (sym head) ∙ sym (cmp-above w.key e.0) ∙ ap is_gt is in
+    ap (λ o. is_some (cond (is_eq o) (Some e.1) rest)) is ∙ later ∙ sym (ap (λ b. not (b && apart)) (or_right (key_below w.key e.1.key) (key_below e.1.key w.key) above))
+
+pub found-key : (w : Write) (es : List (Key × Write)) → AreUnder es
+    → is_some (lookup (is_at (ghosts.cmp w.key)) es) ≡ not (list_all (λ v. keys_differ w.key v.key) (values_of es))
+found-key w [] keyed = refl
+found-key w (e ∷ es) keyed =
+    let this = under e es keyed in
+    found-at w e (lookup (is_at (ghosts.cmp w.key)) es) (list_all (λ (v : Write). keys_differ w.key v.key) (values_of es)) this.0
+    (found-key w es this.1) (ghosts.cmp w.key e.0) refl
 
 keyed-insert : (w : Write) (es : List (Key × Write)) → AreUnder es → AreUnder (insert_entry ghosts.cmp es w.key w)
 keyed-insert w [] keyed = refl

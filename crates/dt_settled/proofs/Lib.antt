@@ -1,3 +1,4 @@
+mod AllWrites
 mod Entries
 mod Insertion
 mod Moving

@@ -6,7 +6,7 @@ use Rattle.std.proofs.lemmas.List.Folds.{list_all-append}
 use mathlib.Core.List.{IsPrefix}
 use Rattle.dt_record.specs.declared.writes.Write.{Write}
 use Rattle.dt_versions.specs.History.{History, history, IsKept, CanAdd}
-use Rattle.dt_settled.specs.Settling.{first_below, Adds, Moves}
+use Rattle.dt_settled.specs.Settling.{first_below, Adds, AddsAll, Moves}
 use Rattle.dt_settled.proofs.Orders.{is_early, IsKept-front, CanAdd-last}
 
 -- One write after another moves from the waiting ones to the settled ones.
@@ -27,6 +27,11 @@ held-next w old mid new moved adds held kept =
     let can = subst (λ (h : History). CanAdd h w) (sym is) (CanAdd-last old.image writes w whole) in
     adds.added can ∙ ap (λ (h : History). history h.image (h.writes ++ w ∷ [])) is ∙ ap (history old.image) joined
 
+-- one more write comes to memory
+adds-next : (w : Write) (old mid new : History) (moved : List Write) → AddsAll moved old mid → Adds w mid new → AddsAll (moved ++ w ∷ []) old new
+adds-next w old mid new [] same adds = (new, subst (λ (h : History). Adds w h new) same adds, refl)
+adds-next w old mid new (v ∷ vs) (first, one, rest) adds = (first, one, adds-next w first mid new vs rest adds)
+
 moves : (least : Option ℕ) (w : Write) (rest : List Write) (old mid new : History) (waited : List Write)
     → is_early least w ≡ true → Adds w mid new → Moves least old waited mid (w ∷ rest) → Moves least old waited new rest
 moves least w rest old mid new waited early adds before = record {
@@ -36,6 +41,7 @@ moves least w rest old mid new waited early adds before = record {
   image = adds.image ∙ before.image;
   grows = prefix-chain old.writes mid.writes new.writes before.grows adds.grows;
   added = held-next w old mid new before.moved adds before.added;
+  one_by_one = adds-next w old mid new before.moved before.one_by_one adds;
 }
 
 pub Moves-next : (least : Option ℕ) (w : Write) (waiting : List Write) (old mid new : History) (waited : List Write)

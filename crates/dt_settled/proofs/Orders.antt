@@ -11,7 +11,8 @@ use Rattle.dt_record.specs.KeyLaws.{KeyBelow-stamps}
 use Rattle.dt_record.specs.Lawful.{is_ram_line}
 use Rattle.dt_versions.specs.History.{history, are_in_order, IsKept, CanAdd}
 use Rattle.dt_core.specs.Machine.{usable_below}
-use Rattle.dt_settled.specs.Settling.{is_below, first_below}
+use Rattle.dt_core.specs.Marks.{is_below}
+use Rattle.dt_settled.specs.Settling.{first_below}
 
 -- Writes in the order of their keys: their fronts, and those below a mark.
 

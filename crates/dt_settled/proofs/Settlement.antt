@@ -1,4 +1,4 @@
-use Rattle.std.proofs.Common.{◌≡◌, ℕ, true, Option, None, Result, Ok, Err, OnErr, List, ◌++◌, filter, length, take, sym, ap, ◌∙◌, subst}
+use Rattle.std.proofs.Common.{◌≡◌, ℕ, ◌+◌, ◌-◌, ◌≤◌, arith, true, Option, None, Result, Ok, Err, OnErr, List, ◌++◌, filter, length, take, sym, ap, ◌∙◌, subst}
 use Rattle.std.proofs.lemmas.List.{append_assoc}
 use Rattle.std.proofs.lemmas.List.Elements.{filter-append}
 use Rattle.std.proofs.Math.Seq.{take-length}
@@ -9,10 +9,11 @@ use Rattle.dt_record.specs.Writes.{by_key}
 use Rattle.dt_versions.specs.History.{History, history, are_in_order, IsKept}
 use Rattle.dt_core.specs.Machine.{usable_below}
 use Rattle.dt_core.specs.Notes.{announced}
+use Rattle.dt_settled.specs.Waiting.{waiting_after}
 use Rattle.dt_settled.specs.Settling.{SettledView, first_below, AreTold, Stands, Continues, ArePromised, Settles, StaysTrue, Moves}
-use Rattle.dt_settled.specs.Waiting.{TakesIn}
 use Rattle.dt_settled.proofs.Orders.{is_early, usable-early, in_order-filter, in_order-behind, filter-all, early-first, early-none, IsKept-front}
 use Rattle.dt_settled.proofs.Insertion.{by_key-in_order, by_key-rest, filter-by_key}
+use Rattle.dt_settled.proofs.TakingIn.{TakesIn, TakesIn-more}
 
 -- Where the notes tell all writes below a mark, what moves are the next of all writes.
 
@@ -91,6 +92,28 @@ module _ (least : Option ℕ) (notes : List Note) (old : SettledView) (h : Histo
       let whole : take to notes ≡ notes = ap (λ (n : ℕ). take n notes) all_taken ∙ take-length notes in
       record { front = has.front; told = subst (λ (ns : List Note). AreTold new.writes waiting ns) (sym whole) has.told })
 
+-- where only some of the notes were taken in, what has settled is as before
+pub StaysTrue-taken : (least : Option ℕ) (notes : List Note) (old : SettledView) (h : History) (waited taken : List Write) (from to : ℕ)
+    → view_of h waited from ≡ old → TakesIn notes from to waited taken → StaysTrue old (view_of h taken to) notes least
+StaysTrue-taken least notes old h waited taken from to is takes =
+    subst (λ (v : SettledView). StaysTrue v (view_of h taken to) notes least) is
+    (λ all promised stands. record { front = stands.front; told = takes promised.apart h.writes stands.told })
+
+-- the same of the notes that come behind
+
+pub taken-more : (before more : List Note) (from to : ℕ) (waited taken : List Write) → from ≡ length before → from ≤ to
+    → taken ≡ waiting_after waited (take (to - from) more) → TakesIn (before ++ more) from to waited taken
+taken-more before more from to waited taken count rise is =
+    let end : length before + (to - from) ≡ to = omega arith in
+    subst (λ (ws : List Write). TakesIn (before ++ more) from to waited ws) (sym is)
+    (subst (λ (n : ℕ). TakesIn (before ++ more) n to waited (waiting_after waited (take (to - from) more))) (sym count)
+    (subst (λ (n : ℕ). TakesIn (before ++ more) (length before) n waited (waiting_after waited (take (to - from) more))) end
+    (TakesIn-more before more (to - from) waited)))
+
 pub on_err_always : {T E P : Type 0} (r : Result T E) → P → OnErr r P
 on_err_always (Ok x) holds = tt
 on_err_always (Err e) holds = holds
+
+pub on_err_weaker : {T E P Q : Type 0} (r : Result T E) → (P → Q) → OnErr r P → OnErr r Q
+on_err_weaker (Ok x) weaker holds = tt
+on_err_weaker (Err e) weaker holds = weaker holds

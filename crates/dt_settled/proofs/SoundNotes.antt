@@ -42,7 +42,7 @@ apart_from_order (w ∷ ws) ordered =
     let parts = inserted w (by_key ws) ordered in
     and_from (list_all (λ v. keys_differ w.key v.key) ws) (are_apart ws) (sym (list_all-by_key (λ v. keys_differ w.key v.key) ws) ∙ parts.0) (apart_from_order ws parts.1)
 
-apart_front : (xs ys : List Write) → are_apart (xs ++ ys) ≡ true → are_apart xs ≡ true
+pub apart_front : (xs ys : List Write) → are_apart (xs ++ ys) ≡ true → are_apart xs ≡ true
 apart_front [] ys apart = refl
 apart_front (x ∷ xs) ys apart =
     let other : Write → Bool = λ v. keys_differ x.key v.key in

@@ -7,10 +7,11 @@ use Rattle.dt_record.specs.declared.writes.Note.{Note}
 use Rattle.dt_record.specs.declared.writes.Write.{Write}
 use Rattle.dt_record.specs.Writes.{writes_of}
 use Rattle.dt_core.specs.Laws.{HoldsBelow}
+use Rattle.dt_core.specs.Marks.{is_below}
 use Rattle.dt_core.specs.Notes.{announced}
 use Rattle.dt_core.specs.Sound.{Lists, IsSound}
 use Rattle.dt_writes.specs.Apart.{are_apart}
-use Rattle.dt_settled.specs.Settling.{SettledView, new_settled, is_below, Stands, Continues, TellBelow}
+use Rattle.dt_settled.specs.Settling.{SettledView, new_settled, Stands, Continues, TellBelow}
 
 -- a new memory has seen no notes, whatever all writes are
 abbrev pub SeeingStarts : Type 0
@@ -24,12 +25,15 @@ SeeingGoesOn = (v : SettledView) (notes more : List Note) (all : List Write) →
 -- for a cycle below the mark, each write that has not settled is of a later one
 abbrev pub EarlyWritesHaveSettled : Type 0
 EarlyWritesHaveSettled = (settled all : List Write) (least : Option ℕ) (stamp : ℕ) → Continues settled least all
-    → IsTrue (is_below least stamp) → (later : List Write) × (all ≡ settled ++ later) × IsTrue (list_all (λ w. nat_lt stamp w.key.stamp) later)
+    → IsTrue (is_below least stamp)
+    → (later : List Write) × (all ≡ settled ++ later) × IsTrue (list_all (λ w. nat_lt stamp w.key.stamp) later)
 
 -- no two writes that a front of a sound history announces have one key
 abbrev pub SoundNotesAreApart : Type 0
-SoundNotesAreApart = (file : List Record) (l : Lists) (front : List Note) → IsSound file l → IsPrefix front l.history → IsTrue (are_apart (announced front))
+SoundNotesAreApart = (file : List Record) (l : Lists) (front : List Note)
+    → IsSound file l → IsPrefix front l.history → IsTrue (are_apart (announced front))
 
 -- what the watermark law says of the notes of a file
 abbrev pub FileWritesAreTold : Type 0
-FileWritesAreTold = (least : Option ℕ) (notes : List Note) (file : List Record) → HoldsBelow least notes file → TellBelow least notes (writes_of file)
+FileWritesAreTold = (least : Option ℕ) (notes : List Note) (file : List Record)
+    → HoldsBelow least notes file → TellBelow least notes (writes_of file)

@@ -1,3 +1,4 @@
+pub mod AllWrites
 pub mod Laws
 pub mod Settling
 pub mod Waiting

@@ -1,6 +1,6 @@
 -- A worker's memory of the writes of all harts, as they settle. All of it is this project's own. Where it speaks of all
 -- writes, these are the writes of the file, in the order of their keys.
-use Rattle.std.specs.Prelude.{◌≡◌, ℕ, Bool, true, not, nat_lt, Option, Some, None, List, [], ◌++◌, take, IsTrue, if◌then◌else◌, ◌∷◌}
+use Rattle.std.specs.Prelude.{◌≡◌, ℕ, ◌-◌, not, length, Option, Some, None, List, [], ◌++◌, take, IsTrue, if◌then◌else◌, ◌∷◌}
 use Rattle.std.specs.List.{list_all}
 use mathlib.Core.List.{IsPrefix}
 use Rattle.dt_record.specs.declared.writes.Write.{Write}
@@ -10,6 +10,8 @@ use Rattle.dt_versions.specs.History.{History, history, IsKept, CanAdd}
 use Rattle.dt_writes.specs.Apart.{are_apart}
 use Rattle.dt_core.specs.Notes.{announced}
 use Rattle.dt_core.specs.Machine.{usable_below}
+use Rattle.dt_core.specs.Marks.{is_below}
+use Rattle.dt_settled.specs.Waiting.{waiting_after}
 
 -- what contracts see: the image, the writes that have settled, those that are announced and wait, and how many notes were seen
 pub record SettledView : Type 0 where
@@ -21,11 +23,6 @@ pub record SettledView : Type 0 where
 -- nothing is seen
 abbrev pub new_settled : List ℕ → SettledView
 new_settled image = record { image = image; writes = []; waiting = []; seen = 0 }
-
--- whether a cycle is below a mark; each is where there is none
-abbrev pub is_below : Option ℕ → ℕ → Bool
-is_below None stamp = true
-is_below (Some least) stamp = nat_lt stamp least
 
 -- settled writes and waiting ones are together those that notes announce
 abbrev pub AreTold : List Write → List Write → List Note → Type 0
@@ -72,13 +69,20 @@ abbrev pub first_below : Option ℕ → List Write → Option Write
 first_below least [] = None
 first_below least (w ∷ ws) = if is_below least w.key.stamp then Some w else None
 
--- a write is added where it can be
+-- a write is added where memory can take it, and else leaves all as it was
 pub record Adds (w : Write) (old new : History) : Type 0 where
   pub image : new.image ≡ old.image
   pub grows : IsPrefix old.writes new.writes
   pub added : CanAdd old w → new ≡ history old.image (old.writes ++ w ∷ [])
+  pub left : (CanAdd old w → ⊥) → new ≡ old
 
--- The first waiting writes, each below the mark, have left, and were added where all of them can be held.
+-- writes come to memory one after another
+abbrev pub AddsAll : List Write → History → History → Type 0
+AddsAll [] old new = new ≡ old
+AddsAll (w ∷ ws) old new = (mid : History) × Adds w old mid × AddsAll ws mid new
+
+-- The first waiting writes, each below the mark, have left, and came to memory one after another. Where all of them can be held,
+-- all are.
 pub record Moves (least : Option ℕ) (old : History) (waited : List Write) (new : History) (waiting : List Write) : Type 0 where
   pub moved : List Write
   pub left : waited ≡ moved ++ waiting
@@ -86,3 +90,19 @@ pub record Moves (least : Option ℕ) (old : History) (waited : List Write) (new
   pub image : new.image ≡ old.image
   pub grows : IsPrefix old.writes new.writes
   pub added : IsKept (history old.image (old.writes ++ moved)) → new ≡ history old.image (old.writes ++ moved)
+  pub one_by_one : AddsAll moved old new
+
+-- What a look at more notes does, in all cases: their writes come to the waiting ones, as far as the notes were seen, and the first
+-- waiting ones, each below the mark, come to memory one after another.
+pub record LooksAt (more : List Note) (least : Option ℕ) (old new : SettledView) : Type 0 where
+  pub moved : List Write
+  pub left : waiting_after old.waiting (take (new.seen - old.seen) more) ≡ moved ++ new.waiting
+  pub below : IsTrue (list_all (λ w. is_below least w.key.stamp) moved)
+  pub one_by_one : AddsAll moved (history old.image old.writes) (history new.image new.writes)
+
+-- the notes that come behind as many as a memory has seen
+abbrev pub SettlesMore : SettledView → SettledView → List Note → Option ℕ → Type 0
+SettlesMore old new more least = (before : List Note) → old.seen ≡ length before → Settles old new (before ++ more) least
+
+abbrev pub StaysTrueMore : SettledView → SettledView → List Note → Option ℕ → Type 0
+StaysTrueMore old new more least = (before : List Note) → old.seen ≡ length before → StaysTrue old new (before ++ more) least

@@ -9,7 +9,8 @@ mod tests;
 mod waiting;
 
 pub use laws::{
-    early_writes_have_settled, file_writes_are_told, seeing_goes_on, seeing_starts,
-    sound_notes_are_apart,
+    all_writes_are_promised, early_writes_have_settled, file_writes_are_told,
+    file_writes_may_be_all, fronts_tell_all_writes, orderly_writes_may_be_all, seeing_goes_on,
+    seeing_starts, sound_notes_are_apart,
 };
 pub use settling::Settled;

@@ -1,9 +1,10 @@
-ghost use Rattle.std.specs.Prelude.{◌≡◌, ◌≤◌, length, IsTrue, OnOk, OnErr};
+ghost use Rattle.std.specs.Prelude.{◌≡◌, ◌≤◌, ◌<◌, ◌+◌, ◌-◌, ◌^◌, length, take, drop, None, IsTrue, OnOk, OnErr};
 ghost use mathlib.Core.List.{IsPrefix};
+ghost use Rattle.dt_core.specs.Marks.{is_below};
 ghost use Rattle.dt_core.specs.Notes.{write_in};
 ghost use Rattle.dt_versions.specs.History.{history, are_in_order};
-ghost use Rattle.dt_settled.specs.Settling.{new_settled, is_below, first_below, Adds, Moves, Settles, StaysTrue};
-ghost use Rattle.dt_settled.specs.Waiting.{Holds, TakesIn};
+ghost use Rattle.dt_settled.specs.Settling.{new_settled, first_below, Adds, Moves, LooksAt, Settles, StaysTrue, SettlesMore, StaysTrueMore};
+ghost use Rattle.dt_settled.specs.Waiting.{waiting_with, waiting_after};
 
 use crate::waiting::Waiting;
 use dt_record::{Image, Note, Write};
@@ -56,8 +57,27 @@ impl Settled {
         ensures within { self.new.seen ≤ length notes.now }
         ensures image { self.new.image ≡ self.old.image }
         ensures grows { IsPrefix self.old.writes self.new.writes }
+        ensures looks { LooksAt (drop self.old.seen notes.now) least self.old self.new }
     {
-        take_in(&mut self.waiting, &mut self.seen, notes)?;
+        self.see_more(&notes[self.seen..], least)
+    }
+
+    /// As `see`, of the notes alone that come behind those that it has seen.
+    pub fn see_more(&mut self, more: &[Note], least: Option<u64>) -> Result<(), AllocError>
+        ensures settles { OnOk result (SettlesMore self.old self.new more.now least) }
+        ensures stays_true { OnErr result (StaysTrueMore self.old self.new more.now least) }
+        ensures seen { OnOk result (self.new.seen ≡ self.old.seen + length more.now) }
+        ensures rises { self.old.seen ≤ self.new.seen }
+        ensures within { self.new.seen ≤ self.old.seen + length more.now }
+        ensures image { self.new.image ≡ self.old.image }
+        ensures grows { IsPrefix self.old.writes self.new.writes }
+        ensures looks { LooksAt more.now least self.old self.new }
+    {
+        // More notes than can be counted are more than memory can hold.
+        if usize::MAX - self.seen < more.len() {
+            return Err(AllocError);
+        }
+        take_in(&mut self.waiting, &mut self.seen, more)?;
         settle(&mut self.moments, &mut self.waiting, least)
     }
 
@@ -69,24 +89,25 @@ impl Settled {
     }
 }
 
-/// Takes the writes of the notes from a place on, which goes on by each note.
-fn take_in(waiting: &mut Waiting, seen: &mut usize, notes: &[Note]) -> Result<(), AllocError>
-    requires { seen.old ≤ length notes.now }
-    ensures taken { TakesIn notes.now seen.old seen.new waiting.old waiting.new }
+/// Takes the writes of the notes, and counts these.
+fn take_in(waiting: &mut Waiting, seen: &mut usize, more: &[Note]) -> Result<(), AllocError>
+    requires { seen.old + length more.now < 2 ^ 64 }
+    ensures taken { waiting.new ≡ waiting_after waiting.old (take (seen.new - seen.old) more.now) }
     ensures in_order { IsTrue (are_in_order waiting.old) → IsTrue (are_in_order waiting.new) }
-    ensures all { OnOk result (seen.new ≡ length notes.now) }
-    ensures within { seen.new ≤ length notes.now }
+    ensures all { OnOk result (seen.new ≡ seen.old + length more.now) }
+    ensures rises { seen.old ≤ seen.new }
+    ensures within { seen.new ≤ seen.old + length more.now }
 {
-    for place in *seen..notes.len() {
-        hold(waiting, &notes[place])?;
-        *seen = place + 1;
+    for note in more {
+        hold(waiting, note)?;
+        *seen += 1;
     }
     Ok(())
 }
 
 /// Takes the write of a note, where it announces one.
 fn hold(waiting: &mut Waiting, note: &Note) -> Result<(), AllocError>
-    ensures held { OnOk result (Holds (write_in note.now) waiting.old waiting.new) }
+    ensures held { OnOk result (waiting.new ≡ waiting_with (write_in note.now) waiting.old) }
     ensures unchanged { OnErr result (waiting.new ≡ waiting.old) }
     ensures in_order { IsTrue (are_in_order waiting.old) → IsTrue (are_in_order waiting.new) }
 {

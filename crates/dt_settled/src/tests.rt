@@ -1,7 +1,4 @@
-use crate::{
-    Settled, early_writes_have_settled, file_writes_are_told, seeing_goes_on, seeing_starts,
-    sound_notes_are_apart,
-};
+use crate::Settled;
 use dt_record::{Image, Key, Note, Write};
 use dt_versions::Moments;
 use std::test::Fail;
@@ -34,15 +31,19 @@ fn last(moments: &Moments) -> (u32, Option<Key>) {
     (count, moments.source(count, LINE))
 }
 
+/// The first byte of the line, where there is such a moment.
+fn byte_at(moments: &Moments, k: u32) -> Option<u8> {
+    if k <= moments.count() {
+        Some(moments.byte(k, LINE))
+    } else {
+        None
+    }
+}
+
 #[test]
 fn writes_settle_below_the_least_mark_in_the_order_of_their_keys(
     rt: HostRuntime,
 ) -> Result<(), Fail> {
-    seeing_starts();
-    seeing_goes_on();
-    early_writes_have_settled();
-    sound_notes_are_apart();
-    file_writes_are_told();
     let notes = [
         wrote(key(12, 0, 1), LINE, 7),
         mark(0, 12),
@@ -78,5 +79,23 @@ fn writes_that_memory_cannot_take_are_left_out(rt: HostRuntime) -> Result<(), Fa
     assert_eq!(rt; last(settled.moments()), (1, Some(key(5, 0, 0))));
     settled.see(&notes, None)?;
     assert_eq!(rt; last(settled.moments()), (2, Some(key(8, 0, 2))));
+    assert_eq!(rt; byte_at(settled.moments(), 1), Some(1));
+    assert_eq!(rt; byte_at(settled.moments(), 2), Some(3));
+    Ok(())
+}
+
+/// A later look that brings the notes alone which were not seen, and a second write with a key that
+/// already waits.
+#[test]
+fn of_two_waiting_writes_with_one_key_the_first_stays(rt: HostRuntime) -> Result<(), Fail> {
+    let mut settled = Settled::new(rt.alloc(), Image::of(Vec::new(rt.alloc())));
+    settled.see_more(&[wrote(key(5, 0, 0), LINE, 1)], Some(5))?;
+    assert_eq!(rt; last(settled.moments()), (0, None));
+    let more = [wrote(key(5, 0, 0), LINE, 2), wrote(key(6, 0, 1), LINE, 3)];
+    settled.see_more(&more, Some(6))?;
+    assert_eq!(rt; last(settled.moments()), (1, Some(key(5, 0, 0))));
+    assert_eq!(rt; byte_at(settled.moments(), 1), Some(1));
+    settled.see_more(&[], None)?;
+    assert_eq!(rt; last(settled.moments()), (2, Some(key(6, 0, 1))));
     Ok(())
 }

@@ -1,6 +1,6 @@
 ghost use Rattle.std.specs.Prelude.{◌≡◌, [], slice_get, drop, IsTrue, OnOk, OnErr};
 ghost use Rattle.dt_versions.specs.History.{are_in_order};
-ghost use Rattle.dt_settled.specs.Waiting.{Holds};
+ghost use Rattle.dt_settled.specs.Waiting.{waiting_with};
 
 use dt_record::{Key, Write};
 use std::alloc::{AllocError, Global};
@@ -35,13 +35,15 @@ impl Waiting {
         }
     }
 
-    /// Puts a write to its place by key. Of two writes with one key, the last stays.
+    /// Puts a write to its place by key. Of two writes with one key, the first stays.
     pub fn insert(&mut self, w: Write) -> Result<(), AllocError>
-        ensures held { OnOk result (Holds (Some w) self.old self.new) }
+        ensures held { OnOk result (self.new ≡ waiting_with (Some w) self.old) }
         ensures unchanged { OnErr result (self.new ≡ self.old) }
         ensures in_order { IsTrue (are_in_order self.new) }
     {
-        self.writes.insert(w.key, w)?;
+        if !self.writes.contains_key(&w.key) {
+            self.writes.insert(w.key, w)?;
+        }
         Ok(())
     }
 

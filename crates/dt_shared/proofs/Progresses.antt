@@ -1,5 +1,5 @@
 -- How far each hart has come, after one more note.
-use Rattle.std.proofs.Common.{◌≡◌, ◌≢◌, ℕ, suc, ◌+◌, ◌-◌, ◌<◌, ◌≤◌, ◌||◌, ◌⊎◌, inl, inr, ⊎_elim, Bool, true, false, Option, Some, None, min, List, [], ◌∷◌, ◌++◌, get_or, set, take, drop, length, replicate, if◌then◌else◌, sym, refl, ap, ◌∙◌, subst, append_assoc, arith, eq-eqb, ne_eqb, length-append, length-set, length-drop, get_or-set_same, get_or-set_other}
+use Rattle.std.proofs.Common.{◌≡◌, ◌≢◌, ℕ, suc, ◌+◌, ◌-◌, ◌<◌, ◌≤◌, ◌||◌, ◌⊎◌, inl, inr, Bool, true, false, Option, Some, None, min, List, [], ◌∷◌, ◌++◌, get_or, set, take, drop, length, replicate, if◌then◌else◌, sym, refl, ap, ◌∙◌, subst, append_assoc, arith, eq-eqb, ne_eqb, length-append, length-set, length-drop, get_or-set_same, get_or-set_other}
 use Rattle.std.specs.List.{list_any, cons_option}
 use Rattle.std.proofs.lemmas.List.{append-nil, length-replicate, get_or-replicate, take_all, take_more, map-append, drop-map}
 use Rattle.std.proofs.lemmas.List.Elements.{filter_map-append}
@@ -14,8 +14,7 @@ use Rattle.dt_shared.specs.declared.entries.Entry.{Entry}
 use Rattle.dt_shared.specs.declared.progress.Progress.{Progress}
 use Rattle.dt_shared.specs.declared.progress.Progress.TheVariants.{At, Ended}
 use Rattle.dt_shared.specs.Entries.{notes_in}
-use Rattle.dt_record.specs.Marks.{stamp_in, ends, marks_of, mark_of, has_ended}
-use Rattle.dt_shared.specs.Marks.{IsLeastMark}
+use Rattle.dt_record.specs.Marks.{stamp_in, ends, marks_of, mark_of, has_ended, least_with, least_mark}
 use Rattle.dt_shared.specs.Replicas.{progress_of, Follows, marked_at, lower_of, IsNamed, followed}
 
 last_snoc : (xs : List ℕ) (x : ℕ) → get_or (xs ++ x ∷ []) (length (xs ++ x ∷ []) - 1) 0 ≡ x
@@ -104,33 +103,20 @@ min_cases : (a b : ℕ) → ((a ≤ b) × (min a b ≡ a)) ⊎ ((b ≤ a) × (mi
 min_cases a b = dite (dec_le a b) (λ le. inl (le, omega arith)) (λ gt. inr (omega arith, omega arith))
 
 -- the least mark of one hart more
-pub least_more : (harts : ℕ) (notes : List Note) (least : Option ℕ) → IsLeastMark harts notes least → IsLeastMark (harts + 1) notes (lower_of least (progress_of harts notes))
-least_more harts notes least is = go (has_ended harts notes) refl least is
+least_more : (hart : ℕ) (notes : List Note) → least_mark (suc hart) notes ≡ lower_of (least_mark hart notes) (progress_of hart notes)
+least_more hart notes = by_end (has_ended hart notes) (least_mark hart notes)
   where
-    -- a hart below one more is the last or below the others
-    each : (P : ℕ → Type 0) → ((hart : ℕ) → hart < harts → P hart) → P harts → (hart : ℕ) → hart < harts + 1 → P hart
-    each P below last hart l = dite (ℕ_discrete hart harts) (λ e. subst P (sym e) last) (λ ne. below hart (omega arith))
-
-    go : (b : Bool) → has_ended harts notes ≡ b → (o : Option ℕ) → IsLeastMark harts notes o → IsLeastMark (harts + 1) notes (lower_of o (if b then Ended else At (mark_of harts notes)))
-    go true ended None is = each (λ hart. has_ended hart notes ≡ true) is ended
-    go true ended (Some least) is =
-        let at = is.0 in let inside = at.1 in
-        ((at.0, omega arith, at.2, at.3), each (λ hart. has_ended hart notes ≡ false → least ≤ mark_of hart notes) is.1 (λ goes_on. absurd (let both = sym ended ∙ goes_on in cc)))
-    go false on None is = let mark : ℕ = mark_of harts notes in
-        ((harts, omega arith, on, refl), each (λ hart. has_ended hart notes ≡ false → mark ≤ mark_of hart notes) (λ hart below goes_on. absurd (let both = sym (is hart below) ∙ goes_on in cc)) (λ _. omega arith))
-    go false on (Some least) is = let mark : ℕ = mark_of harts notes in let at = is.0 in let inside = at.1 in let old = at.3 in
-        ⊎_elim
-        (λ (low : (least ≤ mark) × (min least mark ≡ least)).
-        ((at.0, omega arith, at.2, at.3 ∙ sym low.1), each (λ hart. has_ended hart notes ≡ false → min least mark ≤ mark_of hart notes) (λ hart below goes_on. let h = is.1 hart below goes_on in omega arith) (λ _. omega arith)))
-        (λ (high : (mark ≤ least) × (min least mark ≡ mark)).
-        ((harts, omega arith, on, sym high.1), each (λ hart. has_ended hart notes ≡ false → min least mark ≤ mark_of hart notes) (λ hart below goes_on. let h = is.1 hart below goes_on in omega arith) (λ _. omega arith)))
-        (min_cases least mark)
+    by_end : (ended : Bool) (o : Option ℕ) → (if ended then o else Some (least_with (mark_of hart notes) o)) ≡ lower_of o (if ended then Ended else At (mark_of hart notes))
+    by_end true o = refl
+    by_end false None = refl
+    by_end false (Some least) = refl
 
 pub least_step : (progress : List Progress) (notes : List Note) (hart at : ℕ) (d : Progress) (least result : Option ℕ) → Follows progress notes → hart < 256 → at ≡ hart → result ≡ lower_of least (get_or progress at d)
-    → IsLeastMark hart notes least → IsLeastMark (hart + 1) notes result
+    → least ≡ least_mark hart notes → result ≡ least_mark (hart + 1) notes
 least_step progress notes hart at d least result f inside here is before =
     let was : get_or progress at d ≡ progress_of hart notes = ap (λ (n : ℕ). get_or progress n d) here ∙ get_or_from_slice_get progress hart (progress_of hart notes) d (f.each hart inside) in
-    subst (IsLeastMark (hart + 1) notes) (sym (is ∙ ap (lower_of least) was)) (least_more hart notes least before)
+    let next : suc hart ≡ hart + 1 = omega arith in
+    is ∙ ap (lower_of least) was ∙ ap (λ o. lower_of o (progress_of hart notes)) before ∙ sym (least_more hart notes) ∙ ap (λ (n : ℕ). least_mark n notes) next
 
 pub follows_more : (now later : List Progress) (notes : List Note) (entries : List Entry) (i : ℕ) (d : Entry) → i < length entries → Follows now (notes ++ notes_in (take i entries)) → later ≡ followed now (get_or entries i d).note → IsNamed (get_or entries i d).note
     → Follows later (notes ++ notes_in (take (i + 1) entries))

@@ -7,5 +7,4 @@ pub mod Turns
 pub mod Passes
 pub mod Records
 pub mod Gathers
-pub mod Marks
 pub mod Replicas

@@ -28,7 +28,7 @@ marked_at Ended stamp = Ended
 abbrev pub lower_of : Option ℕ → Progress → Option ℕ
 lower_of least Ended = least
 lower_of None (At mark) = Some mark
-lower_of (Some least) (At mark) = Some (min least mark)
+lower_of (Some least) (At mark) = Some (min mark least)
 
 -- a note names harts below 256
 abbrev pub IsNamed : Note → Type 0

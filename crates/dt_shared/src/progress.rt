@@ -1,8 +1,8 @@
 //! How far each hart has come, by the notes.
 ghost use Rattle.std.specs.Prelude.{◌≡◌, [], ◌∷◌, ◌++◌, List, length};
 ghost use Rattle.dt_record.specs.declared.writes.Note.{Note};
+ghost use Rattle.dt_record.specs.Marks.{least_mark};
 ghost use Rattle.dt_shared.specs.Entries.{notes_in};
-ghost use Rattle.dt_shared.specs.Marks.{IsLeastMark};
 ghost use Rattle.dt_shared.specs.Replicas.{Follows, IsNamed, marked_at, followed, lower_of};
 
 use crate::entries::Entry;
@@ -66,7 +66,7 @@ fn lower(least: Option<u64>, progress: Progress) -> Option<u64>
 {
     match (least, progress) {
         (_, Progress::Ended) => least,
-        (Some(mark), Progress::At(stamp)) => Some(mark.min(stamp)),
+        (Some(mark), Progress::At(stamp)) => Some(stamp.min(mark)),
         (None, Progress::At(stamp)) => Some(stamp),
     }
 }
@@ -74,7 +74,7 @@ fn lower(least: Option<u64>, progress: Progress) -> Option<u64>
 /// The least mark of the first harts, without those that have ended.
 pub(crate) fn least_of(progress: &[Progress], harts: u8) -> Option<u64>
     requires { length progress.now ≡ 256 }
-    ensures { (notes : List Note) → Follows progress.now notes → IsLeastMark harts notes result }
+    ensures { (notes : List Note) → Follows progress.now notes → result ≡ least_mark harts notes }
 {
     let mut least = None;
     for hart in 0..harts {

@@ -1,7 +1,7 @@
 ghost use Rattle.std.specs.Prelude.{◌≡◌, [], ◌++◌, OnOk, OnErr};
 ghost use mathlib.Core.List.{IsPrefix};
+ghost use Rattle.dt_record.specs.Marks.{least_mark};
 ghost use Rattle.dt_shared.specs.Entries.{notes_in};
-ghost use Rattle.dt_shared.specs.Marks.{IsLeastMark};
 
 use crate::entries::Entry;
 use crate::progress::{HARTS, Progress, follow_all, least_of, unmarked};
@@ -60,7 +60,7 @@ impl Replica {
     /// The least mark of the harts that have not ended, and none once all have. A hart's mark is the
     /// stamp of its last `Mark`, or 0 where it has none.
     pub fn least_mark(&self) -> Option<u64>
-        ensures { IsLeastMark self.now.harts self.now.notes result }
+        ensures { result ≡ least_mark self.now.harts self.now.notes }
     {
         least_of(&self.progress, self.harts)
     }

@@ -1,5 +1,5 @@
 mod Filling
 mod KeyOrder
 mod Listing
-mod WriteOrder
-mod WritesOfRecords
+pub mod WriteOrder
+pub mod WritesOfRecords

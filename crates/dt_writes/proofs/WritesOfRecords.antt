@@ -37,7 +37,7 @@ key-body_write key (Store pc bits paddr value) w is = cc
 key-body_write key (Refill line bytes) w is = cc
 key-body_write key Beat w is = cc
 
-key-write_of_record : (seq : ℕ) (r : Record) (w : Write) → write_of_record seq r ≡ Some w → w.key ≡ key_of seq r
+pub key-write_of_record : (seq : ℕ) (r : Record) (w : Write) → write_of_record seq r ≡ Some w → w.key ≡ key_of seq r
 key-write_of_record seq r w is = key-body_write (key_of seq r) r.body w is
 
 -- one record's write before those of later records
@@ -130,12 +130,16 @@ line-body_write key stamp (Store pc bits paddr value) w lawful is = cc
 line-body_write key stamp (Refill line bytes) w lawful is = cc
 line-body_write key stamp Beat w lawful is = cc
 
+-- a lawful record writes to a line of RAM
+pub line-write_of_record : (seq : ℕ) (r : Record) (w : Write) → IsLawful r → write_of_record seq r ≡ Some w → is_ram_line w.line ≡ true
+line-write_of_record seq r w lawful is = line-body_write (key_of seq r) r.stamp r.body w (and_parts (nat_lt r.hart 8) _ lawful).1 is
+
 pub in_ram-writes_after : (harts : ℕ) (last seqs : ℕ → ℕ) (rs : List Record) → AreRecords harts last rs
     → list_all (λ (w : Write). is_ram_line w.line) (writes_after seqs rs) ≡ true
 in_ram-writes_after harts last seqs [] are = refl
 in_ram-writes_after harts last seqs (r ∷ rs) are =
     list_all-step (λ (w : Write). is_ram_line w.line) (write_of_record (seqs r.hart) r) (writes_after (counted seqs r) rs)
-    (λ w is. line-body_write (key_of (seqs r.hart) r) r.stamp r.body w (and_parts (nat_lt r.hart 8) _ are.0.lawful).1 is)
+    (λ w is. line-write_of_record (seqs r.hart) r w are.0.lawful is)
     (in_ram-writes_after harts (stamped last r) (counted seqs r) rs are.1)
 
 -- how many writes there are

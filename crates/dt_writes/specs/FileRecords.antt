@@ -1,4 +1,5 @@
 use Rattle.std.specs.Prelude.{ℕ, ◌≤◌, List, length, filter}
+use Rattle.dt_record.specs.declared.limits.TheConstants.{HART_LIMIT, RECORD_LIMIT, WRITE_LIMIT}
 use Rattle.dt_record.specs.declared.records.Record.{Record}
 use Rattle.dt_record.specs.ProbeFile.{AreRecords, no_stamps}
 use Rattle.dt_record.specs.Writes.{writes_memory}
@@ -7,7 +8,7 @@ use Rattle.dt_record.specs.Writes.{writes_memory}
 -- file's harts, no hart's stamps fall, and they are within the limits.
 pub record AreFileRecords (records : List Record) : Type 0 where
   pub harts : ℕ
-  pub few_harts : harts ≤ 8
+  pub few_harts : harts ≤ HART_LIMIT
   pub each : AreRecords harts no_stamps records
-  pub few_records : length records ≤ 4_194_304
-  pub few_writes : length (filter writes_memory records) ≤ 1_048_576
+  pub few_records : length records ≤ RECORD_LIMIT
+  pub few_writes : length (filter writes_memory records) ≤ WRITE_LIMIT

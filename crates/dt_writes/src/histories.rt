@@ -17,7 +17,7 @@ pub fn moments_of(alloc: Global, image: Image, records: &[Record]) -> Result<Mom
 {
     let mut writes = listed(alloc, records)?;
     sort(&mut writes)?;
-    filled(alloc, image, &writes)
+    moments_over(alloc, image, &writes)
 }
 
 /// The writes of the records, in the order of the records.
@@ -53,8 +53,9 @@ fn sort(writes: &mut Vec<Write>) -> Result<(), AllocError>
     writes.sort_by_key(|w| w.key)
 }
 
-/// The image and all of these writes over it.
-fn filled(alloc: Global, image: Image, writes: &[Write]) -> Result<Moments, AllocError>
+/// The image and all of these writes over it, which stand in the order of their keys. After want of
+/// memory the image is gone.
+pub fn moments_over(alloc: Global, image: Image, writes: &[Write]) -> Result<Moments, AllocError>
     requires { IsKept (history image writes.now) }
     ensures { IfOk result (λ moments. moments ≡ history image writes.now) }
 {

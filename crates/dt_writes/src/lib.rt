@@ -7,5 +7,7 @@ mod laws;
 #[cfg(test)]
 mod tests;
 
-pub use histories::moments_of;
-pub use laws::{own_writes_are_of_records, stable_sorts_are_one, writes_stand_in_order};
+pub use histories::{moments_of, moments_over};
+pub use laws::{
+    file_history_is_kept, own_writes_are_of_records, stable_sorts_are_one, writes_stand_in_order,
+};

@@ -1,4 +1,4 @@
-use crate::{moments_of, own_writes_are_of_records, stable_sorts_are_one, writes_stand_in_order};
+use crate::{moments_of, moments_over};
 use dt_record::{Body, Image, Key, Record, Retire, Write};
 use dt_versions::Moments;
 use std::test::Fail;
@@ -48,9 +48,6 @@ fn found(moments: &Moments, k: u32) -> Option<(u8, Option<Key>)> {
 fn writes_happen_in_the_order_of_their_keys(rt: HostRuntime) -> Result<(), Fail> {
     let image = Image::of(Vec::new(rt.alloc()));
     let moments = moments_of(rt.alloc(), image, &RECORDS)?;
-    own_writes_are_of_records();
-    writes_stand_in_order();
-    stable_sorts_are_one::<Write>();
     let key = |stamp, hart, seq| Some(Key { stamp, hart, seq });
     for (k, byte, source) in [
         (0, 0, None),
@@ -61,5 +58,40 @@ fn writes_happen_in_the_order_of_their_keys(rt: HostRuntime) -> Result<(), Fail>
         assert_eq!(rt; found(&moments, k), Some((byte, source)), "moment {k}");
     }
     assert_eq!(rt; moments.count(), 3);
+    Ok(())
+}
+
+/// Two writes to the same line, the later one of fewer bytes.
+const HELD: [Write; 2] = [
+    Write {
+        key: Key {
+            stamp: 3,
+            hart: 1,
+            seq: 0,
+        },
+        line: 0x8000_0100,
+        mask: 0xff,
+        bytes: [5; 64],
+    },
+    Write {
+        key: Key {
+            stamp: 4,
+            hart: 0,
+            seq: 2,
+        },
+        line: 0x8000_0100,
+        mask: 0xf,
+        bytes: [6; 64],
+    },
+];
+
+#[test]
+fn writes_are_held_over_an_image(rt: HostRuntime) -> Result<(), Fail> {
+    let image = Image::of(Vec::new(rt.alloc()));
+    let moments = moments_over(rt.alloc(), image, &HELD)?;
+    assert_eq!(rt; moments.count(), 2);
+    assert_eq!(rt; moments.byte(1, 0x8000_0100), 5);
+    assert_eq!(rt; moments.byte(2, 0x8000_0100), 6);
+    assert_eq!(rt; moments.byte(2, 0x8000_0104), 5);
     Ok(())
 }

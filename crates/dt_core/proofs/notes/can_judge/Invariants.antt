@@ -1,5 +1,5 @@
 use Rattle.std.proofs.Common.{◌≡◌}
-use Rattle.dt_core.specs.Marks.{can_judge}
+use Rattle.dt_record.specs.Marks.{can_judge}
 use Rattle.dt_core.proofs.notes.can_judge.Given as goal
 
 -- the harts so far are past it

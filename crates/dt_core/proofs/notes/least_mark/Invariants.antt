@@ -1,5 +1,5 @@
 use Rattle.std.proofs.Common.{◌≡◌}
-use Rattle.dt_core.specs.Marks.{least_mark}
+use Rattle.dt_record.specs.Marks.{least_mark}
 use Rattle.dt_core.proofs.notes.least_mark.Given as goal
 
 -- the least mark of the harts so far

@@ -1,6 +1,6 @@
 use Rattle.std.proofs.Common.{not, nat_lt}
 use Rattle.dt_record.specs.declared.writes.Write.{Write}
-use Rattle.dt_settled.specs.Settling.{is_below}
+use Rattle.dt_core.specs.Marks.{is_below}
 use Rattle.dt_settled.proofs.Orders.{list_all-weaker, later-than}
 use Rattle.dt_settled.proofs.laws.early_writes_have_settled.Goals as goal
 

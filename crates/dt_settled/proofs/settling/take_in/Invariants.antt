@@ -1,12 +1,12 @@
-use Rattle.std.proofs.Common.{◌≡◌, IsTrue}
+use Rattle.std.proofs.Common.{◌≡◌, ◌+◌, IsTrue, take}
 use Rattle.dt_versions.specs.History.{are_in_order}
-use Rattle.dt_settled.specs.Waiting.{TakesIn}
+use Rattle.dt_settled.specs.Waiting.{waiting_after}
 use Rattle.dt_settled.proofs.settling.take_in.Given as goal
 
--- the notes up to this place are taken
-abbrev pub invariant-loop-place : goal.invariant-loop-place
-invariant-loop-place l = record {
-  seen : l.seen ≡ l.place;
-  taken : TakesIn l.notes l.fn.seen l.place l.fn.waiting l.waiting;
+-- the notes so far are taken
+abbrev pub invariant-loop-note : goal.invariant-loop-note
+invariant-loop-note l = record {
+  seen : l.seen ≡ l.fn.seen + l.note-index;
+  taken : l.waiting ≡ waiting_after l.fn.waiting (take l.note-index l.more);
   in_order : IsTrue (are_in_order l.fn.waiting) → IsTrue (are_in_order l.waiting);
 }

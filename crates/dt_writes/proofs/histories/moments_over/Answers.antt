@@ -1,7 +1,7 @@
 use Rattle.std.proofs.Common.{get_or, sym, subst}
 use Rattle.dt_versions.specs.History.{History, CanAdd}
 use Rattle.dt_writes.proofs.Filling.{any_write, CanAdd-place}
-use Rattle.dt_writes.proofs.histories.filled.Goals as goal
+use Rattle.dt_writes.proofs.histories.moments_over.Goals as goal
 
 pub add-requires : goal.add-requires
 add-requires c =
