@@ -39,7 +39,7 @@ here addr a None keys same none = none
 here addr a (Some key) keys same none = cond-true (a == addr) (Some key) (lookup (λ b. b == addr) keys) same
 
 -- the bytes from a place on, where f has the key of each place
-abbrev run : (ℕ → Option Key) → (base from count : ℕ) → List (ℕ × Key)
+abbrev pub run : (ℕ → Option Key) → (base from count : ℕ) → List (ℕ × Key)
 run f base from count = present (map (λ place. (base + place, f place)) (range_with_len from count))
 
 run_misses : (f : ℕ → Option Key) (addr base from count : ℕ) → addr < base + from → lookup (λ a. a == addr) (run f base from count) ≡ None

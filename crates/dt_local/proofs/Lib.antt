@@ -1,5 +1,6 @@
 mod Bounds
 mod Bytes
+mod Known
 mod Raised
 mod Soundness
 mod Undoing

@@ -1,8 +1,13 @@
-use Rattle.std.specs.Prelude.{ℕ, ◌≡◌, ◌%◌, ◌==◌, ◌&&◌, Bool, true, false, not, if◌then◌else◌, Option, None, Some, List, [], slice_get}
+use Rattle.std.specs.Prelude.{ℕ, ◌≡◌, ◌%◌, ◌==◌, ◌&&◌, Bool, true, false, not, if◌then◌else◌, Option, None, Some, List, [], slice_get, IsTrue}
 use Rattle.std.specs.Int.{bit_at}
-use Rattle.std.specs.Map.{lookup}
+use Rattle.std.specs.List.{list_all}
+use Rattle.std.specs.List.Sorted.{IsStrictlySortedBy}
+use Rattle.std.specs.Map.{lookup, keys_of}
+use Rattle.std.specs.Ordering.{nat_cmp}
 use Rattle.dt_record.specs.declared.keys.Key.{Key}
+use Rattle.dt_record.specs.declared.states.KnownByte.{KnownByte}
 use Rattle.dt_record.specs.Keys.{key_below}
+use Rattle.dt_record.specs.Lawful.{is_in_ram}
 use Rattle.dt_record.specs.Memory.{line_of}
 
 -- The local memory of a hart (this project's own).
@@ -31,6 +36,15 @@ local_memory keys reserved = record { keys = keys; reserved = reserved; keeps = 
 -- the key of a byte
 abbrev pub newest_of : LocalMemory → ℕ → Option Key
 newest_of l addr = lookup (λ a. a == addr) l.keys
+
+-- bytes of RAM by rising addresses, each with a key
+pub record AreKnownBytes (keys : List (ℕ × Key)) : Type 0 where
+  pub rising : IsStrictlySortedBy nat_cmp (keys_of keys)
+  pub in_ram : IsTrue (list_all is_in_ram (keys_of keys))
+
+-- the address and the key of a known byte
+abbrev pub pair_of : KnownByte → ℕ × Key
+pair_of b = (b.addr, b.key)
 
 -- whether a byte is one of these of the line
 abbrev pub is_noted : (line mask addr : ℕ) → Bool

@@ -3,6 +3,7 @@
 
 mod laws;
 mod local;
+mod pairs;
 mod slots;
 mod steps;
 #[cfg(test)]

@@ -1,12 +1,13 @@
-ghost use Rattle.std.specs.Prelude.{◌≡◌, ℕ, ◌+◌, [], Some, None, true, false, length, IsTrue, IfOk, OnOk, OnErr};
+ghost use Rattle.std.specs.Prelude.{◌≡◌, ℕ, ◌+◌, [], Some, None, true, false, length, map, IsTrue, IfOk, OnOk, OnErr};
 ghost use Rattle.dt_record.specs.Lawful.{is_ram_line};
-ghost use Rattle.dt_local.specs.LocalMemory.{local_memory, reserved_at, newest_of, noted_key, greater};
+ghost use Rattle.dt_local.specs.LocalMemory.{local_memory, reserved_at, newest_of, noted_key, greater, pair_of, AreKnownBytes};
 ghost use Rattle.dt_local.specs.Marks.{IsLive, KeepsMarks, undone, forgotten};
 
+use crate::pairs::known_of;
 use crate::slots::{Slot, key_of_byte};
 use crate::steps::{Steps, no_steps, reserve_steps};
 use crate::words::{forget_steps, make_room, raise_all, undo_steps};
-use dt_record::Key;
+use dt_record::{Key, Known};
 use std::alloc::{AllocError, Global};
 use std::collections::BTreeMap;
 use std::marker::Model;
@@ -67,6 +68,14 @@ impl Local {
             Some(slot) => key_of_byte(slot, (addr % 8) as usize),
             None => None,
         }
+    }
+
+    /// The bytes that have a key, by address, each with the greatest that was noted for it.
+    pub fn pairs(&self, alloc: Global) -> Result<Known, AllocError>
+        ensures value { IfOk result (λ known. map pair_of known ≡ self.now.keys) }
+        ensures in_order { AreKnownBytes self.now.keys }
+    {
+        known_of(alloc, &self.slots)
     }
 
     /// Makes room so that the next `note`, of these bytes of a line, takes no memory.

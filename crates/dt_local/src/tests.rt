@@ -3,7 +3,7 @@ ghost use Rattle.dt_record.specs.Lawful.{is_ram_line};
 ghost use Rattle.dt_local.specs.Marks.{KeepsMarks};
 
 use crate::Local;
-use dt_record::Key;
+use dt_record::{Key, KnownByte};
 use std::alloc::AllocError;
 use std::test::Fail;
 
@@ -71,5 +71,33 @@ fn marks_are_undone_to_and_forgotten(rt: HostRuntime) -> Result<(), Fail> {
     assert_eq!(rt; local.newest(0x8000_0000), Some(key(10, 1, 5)));
     assert_eq!(rt; copy.newest(0x8000_003f), Some(key(12, 1, 6)));
     assert_eq!(rt; copy.newest(0x8000_0040), None);
+    Ok(())
+}
+
+#[test]
+fn pairs_stand_by_address(rt: HostRuntime) -> Result<(), Fail> {
+    let mut local = Local::new(rt.alloc());
+    local.reserve(0x8000_0040, u64::MAX)?;
+    assert!(rt; local.pairs(rt.alloc())?.items().is_empty());
+    noted(&mut local, 0x83ff_ffc0, 1 << 63, &[key(9, 7, 7); 64])?;
+    noted(
+        &mut local,
+        0x8000_0000,
+        0b1000_0000_0110,
+        &[key(10, 1, 5); 64],
+    )?;
+    noted(&mut local, 0x8000_0000, 0b101, &[key(10, 1, 6); 64])?;
+    let at = |addr: u64, key: Key| KnownByte { addr, key };
+    assert_eq!(rt;
+        local.pairs(rt.alloc())?.items(),
+        [
+            at(0x8000_0000, key(10, 1, 6)),
+            at(0x8000_0001, key(10, 1, 5)),
+            at(0x8000_0002, key(10, 1, 6)),
+            at(0x8000_000b, key(10, 1, 5)),
+            at(0x83ff_ffff, key(9, 7, 7)),
+        ]
+        .as_slice()
+    );
     Ok(())
 }
