@@ -1,4 +1,4 @@
-use Rattle.std.proofs.Common.{◌∙◌, None, refl, subst, arith}
+use Rattle.std.proofs.Common.{◌∙◌, None, refl, subst}
 use Rattle.dt_probe_file.specs.Headers.{IsCutHeader}
 use Rattle.dt_probe_file.proofs.HeldParts.{reads_stay, reads_twice}
 use Rattle.dt_probe_file.proofs.AskingFor.{had_to_read}

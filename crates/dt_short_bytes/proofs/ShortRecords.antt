@@ -16,8 +16,8 @@ use Rattle.dt_short_bytes.specs.declared.short_kinds.Kind.{Kind}
 use Rattle.dt_short_bytes.specs.declared.short_kinds.Kind.TheVariants as kinds
 use Rattle.dt_short_bytes.specs.ShortForms.{kind_number, field_count, line_count, Form, form_bytes, FitsForm, MayFollow}
 use Rattle.dt_short_bytes.specs.ShortReading.{padded, below, flag_at, whole_line, spread, retire_at, body_at, if_lawful, record_at}
-use Rattle.dt_short_bytes.specs.ShortSpread.{masked_count, masked_each, spread_length, spread_each, spread_back, masked_back}
-use Rattle.dt_short_bytes.specs.ShortChain.{read_of_form}
+use Rattle.dt_short_bytes.proofs.ShortSpread.{masked_count, masked_each, spread_length, spread_each, spread_back, masked_back}
+use Rattle.dt_short_bytes.proofs.ShortChain.{read_of_form}
 
 abbrev pub kind_of_body : Body → Kind
 kind_of_body (Commit retire) = kinds.Commit
