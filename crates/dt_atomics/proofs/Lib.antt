@@ -1,4 +1,5 @@
 mod AllowedAtomics
+mod AnAnswer
 mod AskedAlone
 mod CheckSteps
 mod FilledSources

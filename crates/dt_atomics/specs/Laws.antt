@@ -21,6 +21,10 @@ abbrev pub AtomicsHaveOneAnswer : Type 0
 AtomicsHaveOneAnswer = (g : AtomicGrounds) (key : Key) (x : AtomicAccess) (one other : Result Passed Misfit)
     → IsAtomicAnswer g key x one → IsAtomicAnswer g key x other → one ≡ other
 
+-- and each has one
+abbrev pub AtomicsHaveAnAnswer : Type 0
+AtomicsHaveAnAnswer = (g : AtomicGrounds) (key : Key) (x : AtomicAccess) → (answer : Result Passed Misfit) × IsAtomicAnswer g key x answer
+
 -- what the hart's actions had for each byte is the same with some writes after the others
 abbrev pub HadAlike : (writes later : List Write) → List Action → (moments : ℕ → ℕ) → Type 0
 HadAlike writes later actions moments =

@@ -17,4 +17,7 @@ pub use dt_loads::Passed;
 pub use dt_rules::Misfit;
 pub use dt_step::AtomicOp;
 pub use judging::atomic;
-pub use laws::{allowed_atomics_are_exact, atomics_have_one_answer, first_writes_decide_atomics};
+pub use laws::{
+    allowed_atomics_are_exact, atomics_have_an_answer, atomics_have_one_answer,
+    first_writes_decide_atomics,
+};

@@ -1,5 +1,6 @@
 -- Lists of writes that begin alike give the same checks.
 use Rattle.std.proofs.Common.{◌%◌, ◌==◌, Bool, ◌||◌, if◌then◌else◌, Ok, Result, ap, ◌∙◌, arith}
+use Rattle.dt_access.specs.Translating.{walk_args}
 use Rattle.dt_alu.specs.Words.{sum_of}
 use Rattle.dt_record.specs.declared.reasons.Reason.TheVariants.{Pc}
 use Rattle.dt_rules.specs.declared.misfits.Misfit.{Misfit}
@@ -12,7 +13,6 @@ use Rattle.dt_checks.specs.Addresses.{address_answer}
 use Rattle.dt_checks.specs.Fetching.{first_half, half_answer, half_check, rest_check, second_half}
 use Rattle.dt_checks.specs.Laws.{SameAddresses, SameFetches, SameHalves, SameStarts}
 use Rattle.dt_checks.specs.Starting.{started_check}
-use Rattle.dt_checks.specs.Translating.{walk_args}
 
 module _ (windows : SameWindows) where
   pub same_halves : SameHalves

@@ -1,4 +1,3 @@
-mod Accesses
 mod Histories
 mod Places
 mod Retired

@@ -2,7 +2,6 @@
 use Rattle.std.proofs.Common.{◌≡◌, ℕ, Bool, true, false, Option, Some, None, Ok, Err, Result, IsSomeAnd, IfOk, IsTrue, refl, sym, ap, subst, eqb-true, arith}
 use Rattle.std.specs.Option.{option_map_or}
 use Rattle.dt_decode.specs.declared.instructions.Instr.{Instr}
-use Rattle.dt_decode.specs.Decoded.{IsDecoded}
 use Rattle.dt_record.specs.Lawful.{is_instruction}
 use Rattle.dt_reference.specs.Meaning.{meaning_of}
 use Rattle.dt_rules.specs.declared.misfits.Misfit.{Misfit}
@@ -10,10 +9,10 @@ use Rattle.dt_rules.specs.Checks.{check}
 use Rattle.dt_step.specs.declared.plans.Planned.{Planned}
 use Rattle.dt_step.specs.declared.plans.Planned.TheVariants.{Done, NeedsLoad, NeedsStore, NeedsAtomic, Csr, Returns, Fences, FenceI, FencesPages, Raises}
 use Rattle.dt_step.specs.declared.state.Arch.{Arch}
+use Rattle.dt_step.specs.Alignment.{AccessesAligned}
 use Rattle.dt_step.specs.Causes.{due_cause, due_tval}
 use Rattle.dt_step.specs.Plans.{legal_plan, plan_of}
 use Rattle.dt_checks.specs.Retiring.{IsRetired, due_tag, plan_check, raised}
-use Rattle.dt_checks.proofs.Accesses.{legal_plan-aligned}
 
 some_and : (o : Option Instr) (i : Instr) (P : Instr → Type 0) → o ≡ Some i → P i → IsSomeAnd o P
 some_and None i P is holds = absurd (let no : None ≡ Some i = is in cc)
@@ -35,7 +34,8 @@ passed_plan (Fences ww wr rr) tag p passed = let held = checked _ _ _ p passed i
 passed_plan FenceI tag p passed = let held = checked _ _ _ p passed in (held.1, eqb-true _ _ held.0)
 passed_plan (FencesPages va all) tag p passed = let held = checked _ _ _ p passed in (held.1, eqb-true _ _ held.0)
 
-module _ (a : Arch) (bits tag : ℕ) (i : Instr) (well_spelled : IsTrue (is_instruction bits)) (means : meaning_of bits ≡ Some i) (decoded : IsDecoded i) where
+module _ (a : Arch) (bits tag : ℕ) (i : Instr) (well_spelled : IsTrue (is_instruction bits)) (means : meaning_of bits ≡ Some i)
+    (aligned : AccessesAligned (plan_of a i bits)) where
   -- the plan of an instruction that raises a cause, or none
   abbrev by_cause : Option ℕ → Planned
   by_cause due = option_map_or (λ cause. Raises cause (due_tval a i bits cause)) due (legal_plan a i bits)
@@ -47,7 +47,7 @@ module _ (a : Arch) (bits tag : ℕ) (i : Instr) (well_spelled : IsTrue (is_inst
       subst P same (record {
         can_retire = record { instruction = well_spelled; legal = some_and (meaning_of bits) i (λ j. due_cause a j ≡ None) means none };
         is_planned = some_and (meaning_of bits) i (λ j. legal_plan a i bits ≡ plan_of a j bits) means planned;
-        is_aligned = legal_plan-aligned a i bits decoded none;
+        is_aligned = subst (λ (q : Planned). AccessesAligned q) (sym planned) aligned;
         is_due = due;
       })
 

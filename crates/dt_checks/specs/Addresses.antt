@@ -1,11 +1,12 @@
 use Rattle.std.specs.Prelude.{ℕ, ◌≡◌, ◌%◌, Bool, IsTrue, List, Result, Ok, Err, Option, Some, None}
+use Rattle.dt_access.specs.Reaching.{is_reachable}
 use Rattle.dt_alu.specs.Extend.{IsAccessWidth}
 use Rattle.dt_record.specs.declared.reasons.Reason.TheVariants.{Address}
 use Rattle.dt_record.specs.declared.writes.Write.{Write}
 use Rattle.dt_rules.specs.declared.misfits.Misfit.{Misfit}
 use Rattle.dt_rules.specs.declared.misfits.TheConstants.{NO_NUMBER}
 use Rattle.dt_rules.specs.Checks.{misfit}
-use Rattle.dt_translate.specs.Outcomes.{allowed_moment, is_reachable, outcome_at}
+use Rattle.dt_translate.specs.Outcomes.{allowed_moment, outcome_at}
 use Rattle.dt_versions.specs.declared.moments.Span.{Span}
 use Rattle.dt_walk.specs.declared.arguments.WalkAnswer.{WalkAnswer}
 use Rattle.dt_walk.specs.declared.arguments.WalkAnswer.TheVariants.{Page, PageFault, AccessFault}

@@ -1,4 +1,5 @@
 use Rattle.std.specs.Prelude.{ℕ, ◌/◌, ◌%◌, ◌^◌, ◌≤◌, ◌==◌, Bool, not, ◌||◌, if◌then◌else◌, List, Result, Ok, Err, Option, Some, None}
+use Rattle.dt_access.specs.Translating.{walk_args}
 use Rattle.dt_alu.specs.Words.{sum_of}
 use Rattle.dt_record.specs.declared.reasons.Reason.TheVariants.{Fetch as NotFetched}
 use Rattle.dt_record.specs.declared.writes.Write.{Write}
@@ -9,7 +10,6 @@ use Rattle.dt_translate.specs.Fetches.{fetch_moments}
 use Rattle.dt_versions.specs.declared.moments.Span.{Span}
 use Rattle.dt_walk.specs.declared.arguments.Access.TheVariants.{Fetch}
 use Rattle.dt_checks.specs.declared.fetching.FetchSpans.{FetchSpans}
-use Rattle.dt_checks.specs.Translating.{walk_args}
 
 -- Whether an instruction may have been fetched (this project's own): each halfword by itself.
 

@@ -3,4 +3,3 @@ pub mod Fetching
 pub mod Laws
 pub mod Retiring
 pub mod Starting
-pub mod Translating

@@ -1,6 +1,4 @@
-use Rattle.std.specs.Prelude.{ℕ, ◌≡◌, ◌%◌, ◌==◌, Option, Some, None, IsSomeAnd, Result, Ok, Err}
-use Rattle.dt_alu.specs.Amo.{IsAmoWidth}
-use Rattle.dt_alu.specs.Extend.{IsAccessWidth}
+use Rattle.std.specs.Prelude.{ℕ, ◌≡◌, ◌==◌, Option, Some, None, IsSomeAnd, Result, Ok, Err}
 use Rattle.dt_csr.specs.declared.cause.TheConstants.{ILLEGAL_INSTRUCTION}
 use Rattle.dt_decode.specs.declared.instructions.Instr.{Instr}
 use Rattle.dt_record.specs.declared.reasons.Reason.TheVariants.{Kind, Raises as RaisesCause}
@@ -12,6 +10,7 @@ use Rattle.dt_rules.specs.Checks.{check, misfit}
 use Rattle.dt_step.specs.declared.plans.Planned.{Planned}
 use Rattle.dt_step.specs.declared.plans.Planned.TheVariants.{NeedsLoad, NeedsStore, NeedsAtomic, Raises}
 use Rattle.dt_step.specs.declared.state.Arch.{Arch}
+use Rattle.dt_step.specs.Alignment.{AccessesAligned}
 use Rattle.dt_step.specs.Plans.{plan_of}
 
 -- Whether an instruction can retire in this state, in a record of its kind (this project's own).
@@ -40,23 +39,6 @@ meaning_check a bits tag None = Err (raised ILLEGAL_INSTRUCTION)
 -- the instruction with these bits, in a record with this tag
 abbrev pub retire_check : Arch → (bits tag : ℕ) → Result Planned Misfit
 retire_check a bits tag = meaning_check a bits tag (meaning_of bits)
-
--- an access of 1, 2, 4 or 8 bytes, at a multiple of its width
-pub record IsAligned (va width : ℕ) : Type 0 where
-  pub bytes : IsAccessWidth width
-  pub multiple : va % width ≡ 0
-
--- an atomic access, of 4 or 8 bytes, at a multiple of its width
-pub record IsAlignedAtomic (va width : ℕ) : Type 0 where
-  pub bytes : IsAmoWidth width
-  pub multiple : va % width ≡ 0
-
--- the access that a plan asks for, if any, is aligned
-abbrev pub AccessesAligned : Planned → Type 0
-AccessesAligned (NeedsLoad va width signed rd) = IsAligned va width
-AccessesAligned (NeedsStore va width value) = IsAligned va width
-AccessesAligned (NeedsAtomic va width op aq rl rd operand) = IsAlignedAtomic va width
-AccessesAligned plan = Unit {0}
 
 -- what holds of an instruction that retires in a record with this tag, by this plan
 pub record IsRetired (a : Arch) (bits tag : ℕ) (plan : Planned) : Type 0 where

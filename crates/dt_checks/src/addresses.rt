@@ -6,7 +6,7 @@ use crate::fetching::is_older;
 use dt_rules::{Misfit, NO_NUMBER, Reason};
 use dt_translate::{allowed, outcome};
 use dt_versions::{Moments, Span};
-use dt_walk::{WalkAnswer, WalkArgs};
+use dt_walk::{WalkAnswer, WalkArgs, leaf_decides};
 
 fn page_or_none(answer: WalkAnswer) -> u64
     ensures { result ≡ page_or_none answer }
@@ -33,6 +33,7 @@ pub fn address(
     ensures value { result ≡ address_check m.now.image m.now.writes window args ram_only paddr }
     ensures place { OnOk result (IsPlaceOf args.va ram_only paddr) }
 {
+    leaf_decides();
     match allowed(m, window, args, ram_only, WalkAnswer::Page(paddr)) {
         Some(k) => Ok(is_older(window, k)),
         None => Err(Misfit {

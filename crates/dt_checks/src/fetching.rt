@@ -2,7 +2,7 @@ ghost use Rattle.std.specs.Prelude.{◌≡◌, ◌≤◌, ◌%◌, length};
 ghost use Rattle.dt_step.specs.State.{IsArch};
 ghost use Rattle.dt_checks.specs.Fetching.{SpansEndWithin, fetch_check, half_check, is_older, second_check};
 
-use crate::translating::walk_args;
+use dt_access::walk_args;
 use dt_rules::{Misfit, Reason};
 use dt_step::Arch;
 use dt_translate::fetch;

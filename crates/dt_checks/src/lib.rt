@@ -10,11 +10,9 @@ mod retiring;
 mod starting;
 #[cfg(test)]
 mod tests;
-mod translating;
 
 pub use addresses::address;
 pub use fetching::{FetchSpans, fetched, half_fetched, is_older};
 pub use laws::first_writes_decide_checks;
 pub use retiring::retires;
 pub use starting::{Started, start};
-pub use translating::walk_args;

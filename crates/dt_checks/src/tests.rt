@@ -1,14 +1,11 @@
 ghost use Rattle.std.specs.Prelude.{IsTrue};
 ghost use Rattle.dt_record.specs.Lawful.{is_instruction};
-ghost use Rattle.dt_step.specs.State.{IsArch};
 
-use crate::{FetchSpans, Started, address, half_fetched, start, walk_args};
-use dt_csr::{USER, mstatus};
+use crate::{FetchSpans, Started, half_fetched, start};
 use dt_record::{Image, Key, Write};
 use dt_rules::{Misfit, NO_NUMBER, Reason};
-use dt_step::{Arch, Planned, reset};
+use dt_step::{Planned, reset};
 use dt_versions::{Moments, Span};
-use dt_walk::{Access, WalkArgs};
 use std::alloc::{AllocError, Global};
 use std::process::Abort;
 use std::test::Fail;
@@ -145,34 +142,4 @@ fn an_older_halfword_is_told(rt: HostRuntime) -> Result<(), Fail> {
         assert_eq!(rt; answer, expected, "{half:x} from {first}");
     }
     Ok(())
-}
-
-/// In M with MPRV and the MPP of U, with page tables of three levels from 80002000 on.
-fn lending(rt: &impl Abort) -> Arch
-    ensures { IsArch result }
-{
-    let status = 0x2_0000;
-    assert!(rt; mstatus::MPP.get(status) != mstatus::RESERVED_MODE);
-    let mut a = reset(0);
-    a.csrs.mstatus = status;
-    a.csrs.satp = 0x8000_0000_0008_0002;
-    a
-}
-
-#[test]
-fn stores_of_m_are_translated_for_u(rt: HostRuntime) {
-    let a = lending(&rt);
-    let store = WalkArgs {
-        va: 0x1234,
-        root: 0x8000_2000,
-        on: true,
-        levels: 3,
-        access: Access::Store,
-        mode: USER,
-        sum: false,
-        mxr: false,
-    };
-    assert_eq!(rt; walk_args(&a, Access::Store, 0x1234), store);
-    let fetch = walk_args(&a, Access::Fetch, 0x1234);
-    assert_eq!(rt; (fetch.on, fetch.mode), (false, 3));
 }

@@ -4,8 +4,9 @@ ghost use Rattle.dt_csr.specs.Access.{floor_of};
 ghost use Rattle.dt_rules.specs.Checks.{misfit, check};
 ghost use Rattle.dt_commits.specs.Values.{value_check, shown_check, commit_value_check};
 
+use dt_csr::cause::ILLEGAL_INSTRUCTION;
 use dt_csr::{CsrRead, Csrs, read};
-use dt_rules::{Misfit, Reason, counter, pending};
+use dt_rules::{Misfit, NO_NUMBER, Reason, counter, pending};
 use dt_step::{Arch, Planned};
 
 /// Whether a commit has the value that its plan writes to rd, or 0 where it writes none or rd is x0.
@@ -36,7 +37,11 @@ fn is_shown(c: &Csrs, shown: CsrRead, found: u64) -> Result<bool, Misfit>
         CsrRead::Value(value) => is_value(value, found),
         CsrRead::Counter(number) => is_counted(c.floor(number), found),
         CsrRead::Pending(mask) => is_pending(mask, found),
-        CsrRead::Illegal => is_value(0, found),
+        CsrRead::Illegal => Err(Misfit {
+            reason: Reason::Raises,
+            expected: ILLEGAL_INSTRUCTION,
+            found: NO_NUMBER,
+        }),
     }
 }
 

@@ -1,4 +1,6 @@
 pub mod Bits
+pub mod Bounds
 pub mod Codes
+pub mod Listed
 pub mod Stacks
 pub mod Writes

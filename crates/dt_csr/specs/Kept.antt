@@ -1,4 +1,5 @@
-use Rattle.std.specs.Prelude.{ℕ, ◌≢◌, ◌-◌, ◌^◌, ◌<◌, List, [], ◌∷◌, IsTrue}
+use Rattle.std.specs.Prelude.{ℕ, ◌≢◌, ◌-◌, ◌^◌, ◌<◌, ◌==◌, Bool, not, ◌&&◌, List, [], ◌∷◌, IsTrue, bit_and, slice_index}
+use Rattle.std.specs.Int.{w64, bit_not}
 use Rattle.dt_csr.specs.declared.mstatus.TheConstants.{MPP, RESERVED_MODE}
 use Rattle.dt_csr.specs.declared.satp.TheConstants.{MODE}
 use Rattle.dt_csr.specs.declared.registers.Register.{Register}
@@ -54,3 +55,32 @@ pub record IsKept (c : Csrs) : Type 0 where
   pub mpp : NamesMode c.mstatus
   pub satp_mode : IsTrue (keeps_mode c.wide (field_of c.satp MODE))
   pub floors : (c.cycle_floor < 2 ^ 64) × (c.instret_floor < 2 ^ 64) × (c.time_floor < 2 ^ 64)
+
+-- values that these registers can have together: the table's bounds on each, by whether satp keeps the MODE of Sv48
+pub record KeepsBounds (values : List ℕ) (wide : Bool) : Type 0 where
+  pub fixed_bits : HaveFixedBits kept_registers values
+  pub mpp : NamesMode (slice_index values 0)
+  pub satp_mode : IsTrue (keeps_mode wide (field_of (slice_index values 16) MODE))
+
+-- the bounds of a register as a test
+abbrev pub has_fixed_bits : Register → ℕ → Bool
+has_fixed_bits register value =
+    let fixed = bit_not w64 (reach (row_of register).rule) in
+    bit_and value fixed == bit_and (row_of register).reset fixed
+
+-- the test of those registers of M of which not every bit can be written, and of those of S
+abbrev pub machine_has_fixed_bits : Csrs → Bool
+machine_has_fixed_bits c =
+    has_fixed_bits Mstatus c.mstatus && (has_fixed_bits Medeleg c.medeleg && (has_fixed_bits Mideleg c.mideleg
+    && (has_fixed_bits Mie c.mie && (has_fixed_bits Mtvec c.mtvec && (has_fixed_bits Mcounteren c.mcounteren
+    && has_fixed_bits Mepc c.mepc)))))
+
+abbrev pub supervisor_has_fixed_bits : Csrs → Bool
+supervisor_has_fixed_bits c =
+    has_fixed_bits Stvec c.stvec && (has_fixed_bits Scounteren c.scounteren && has_fixed_bits Sepc c.sepc)
+
+-- all bounds as a test of the registers with the values, where each has 64 bits
+abbrev pub are_within_bounds : Csrs → Bool → Bool
+are_within_bounds c wide =
+    machine_has_fixed_bits c && (supervisor_has_fixed_bits c && (not (field_of c.mstatus MPP == RESERVED_MODE)
+    && keeps_mode wide (field_of c.satp MODE)))

@@ -25,13 +25,13 @@ pub enum CsrRead {
 /// RV64 with A, C, I, M, S and U (Volume II, section 3.1.1).
 const MISA: u64 = 0x8000_0000_0014_1105;
 /// The exceptions that can be delegated to S.
-const EXCEPTIONS_DELEGATED: u64 = 0xB3FF;
+pub const EXCEPTIONS_DELEGATED: u64 = 0xB3FF;
 /// The bits of a trap vector that can be written: all but bit 1.
-const VECTOR_WRITABLE: u64 = !2;
+pub const VECTOR_WRITABLE: u64 = !2;
 /// The bits of mepc and sepc that can be written: all but bit 0.
-const PC_WRITABLE: u64 = !1;
+pub const PC_WRITABLE: u64 = !1;
 /// The bits for cycle, time and instret.
-const COUNTERS: u64 = 7;
+pub const COUNTERS: u64 = 7;
 
 /// What hart `hart` reads in this mode from the register with this number.
 pub fn read(c: &Csrs, mode: u8, hart: u8, number: u16) -> CsrRead
@@ -187,7 +187,8 @@ fn status_after(old: u64, value: u64) -> u64
     }
 }
 
-fn keeps(wide: bool, mode: u64) -> bool
+/// Whether satp keeps a MODE.
+pub fn keeps(wide: bool, mode: u64) -> bool
     ensures { result ≡ keeps_mode wide mode }
 {
     mode == satp::BARE || mode == satp::SV39 || wide && mode == satp::SV48

@@ -4,6 +4,7 @@
 mod access;
 pub mod cause;
 mod fields;
+mod kept;
 mod laws;
 mod modes;
 pub mod mstatus;
@@ -16,6 +17,7 @@ mod traps;
 
 pub use access::{CsrRead, may_write, read, write};
 pub use fields::{Field, masked};
+pub use kept::keeps_bounds;
 pub use laws::{
     masked_by_bits, mret_undoes_trap, put_is_got, put_leaves_apart, sret_undoes_trap,
     sstatus_stays_inside,

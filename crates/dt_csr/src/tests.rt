@@ -385,3 +385,43 @@ fn mpp_names_a_mode(rt: HostRuntime) {
         assert_eq!(rt; c.mstatus, after, "{before:x} {value:x}");
     }
 }
+
+/// The values after a reset, and one change of each that is out of bounds or inside.
+#[test]
+fn values_with_bounds(rt: HostRuntime) {
+    let reset = Csrs::reset().values();
+    for (place, value, narrow, wide) in [
+        (0, 0xa_007e_19aa, true, true),
+        (0, 0xa_007e_11aa, false, false),
+        (0, 0xa_007e_09aa, true, true),
+        (0, 0x8_0000_0000, false, false),
+        (1, 0x400, false, false),
+        (1, 0xb3ff, true, true),
+        (2, 0x222, true, true),
+        (2, 0x888, false, false),
+        (3, 0xaaa, true, true),
+        (3, 1, false, false),
+        (4, 2, false, false),
+        (5, 8, false, false),
+        (6, u64::MAX, true, true),
+        (7, 1, false, false),
+        (10, 2, false, false),
+        (11, 8, false, false),
+        (13, 1, false, false),
+        (15, u64::MAX, true, true),
+        (16, 0x8fff_ffff_ffff_ffff, true, true),
+        (16, 0x9000_0000_0000_0000, false, true),
+        (16, 0x1000_0000_0000_0000, false, false),
+    ] {
+        let mut v = reset;
+        assert!(rt; place < v.len());
+        v[place] = value;
+        let answers = (keeps_bounds(&v, false), keeps_bounds(&v, true));
+        assert_eq!(rt; answers, (narrow, wide), "{value:x} at {place}");
+        if keeps_bounds(&v, true) {
+            let c = Csrs::of_values(v, 1, 2, 3, true);
+            assert_eq!(rt; c.values(), v);
+            assert_eq!(rt; (c.floor(0), c.floor(2), c.floor(1)), (1, 2, 3));
+        }
+    }
+}

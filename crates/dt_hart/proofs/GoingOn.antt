@@ -6,10 +6,10 @@ use Rattle.dt_record.specs.declared.origins.Sources.{Sources}
 use Rattle.dt_record.specs.declared.records.Record.{Record}
 use Rattle.dt_record.specs.Actions.{Action, last_read, order_floor}
 use Rattle.dt_record.specs.Keys.{key_of}
+use Rattle.dt_record.specs.LoadSources.{AreLeastSources}
 use Rattle.dt_local.specs.LocalMemory.{LocalMemory, local_memory}
 use Rattle.dt_reference.specs.HartActions.{action_of, actions_of}
 use Rattle.dt_reference.specs.Run.{after_record, state_after}
-use Rattle.dt_sources.specs.Choice.{ChoosesLeast, LeastChoiceGoesOn}
 use Rattle.dt_sources.specs.Knowing.{Knows, AreJudged, KnowingGoesOn, NotesAreAdded}
 use Rattle.dt_judged.specs.GoingOn.{JudgedGoesOn}
 use Rattle.dt_step.specs.declared.state.Arch.{Arch}
@@ -28,7 +28,7 @@ use Rattle.dt_hart.proofs.FencesOn.{reserved_after, windows_after}
 use Rattle.dt_hart.proofs.Floors.{last_read_after, order_floor_after_one}
 use Rattle.dt_hart.proofs.JudgedOn.{judged_after}
 use Rattle.dt_hart.proofs.RecordKinds.{Kind, kind_of}
-use Rattle.dt_hart.proofs.KnowingOn.{known_next, known_after, chosen_after}
+use Rattle.dt_hart.proofs.KnowingOn.{ChoiceLaws, known_next, known_after, chosen_after}
 use Rattle.dt_hart.proofs.OwnKeys.{stamp_from-snoc}
 
 -- What is kept of a hart goes on standing for its records.
@@ -53,7 +53,7 @@ pub record Laws : Type 0 where
   pub actions : (records : List Record) (r : Record) → actions_of (records ++ r ∷ []) ≡ actions_of records ++ option_to_list (action_of (length records) r)
   pub knowing : KnowingGoesOn
   pub added : NotesAreAdded
-  pub least : LeastChoiceGoesOn
+  pub choice : ChoiceLaws
   pub judging : JudgedGoesOn
 
 next_after : (s : Setting) (r : Record) (moment : ℕ) → next_key (after s r moment) ≡ key_after s r
@@ -78,7 +78,7 @@ goes_on laws a b seq stamp old new reserved leaves windows next r sources placed
     let l : LocalMemory = local_memory new.local.keys None in
     let place : IsTrue (is_placed (does s r)) = subst (λ n. IsTrue (is_placed (action_of n r))) stands.seq placed in
     let knows = known_after laws.knowing laws.added old.local new.local s r g moment sources (known_next laws.knowing h s r stands g) follows.keys known.is_read place kind in
-    let chosen = chosen_after laws.least s r moment sources stands.chosen known.is_read kind in
+    let chosen = chosen_after laws.choice s r moment sources g.in_order stands.chosen known.is_read kind in
     let judged = judged_after laws.judging h s r g stands known.is_drained place kind in
     record {
       seq = ap (λ n. n + 1) stands.seq ∙ sym long;
@@ -87,7 +87,7 @@ goes_on laws a b seq stamp old new reserved leaves windows next r sources placed
       stores = subst (λ (xs : List Action). Keeps new.stores xs) (sym acts) (follows.stores (did s) stands.stores known.is_drained);
       knows = subst (λ (k : Key). Knows l s.writes (did (after s r moment)) moments k) (sym next_is)
           (subst (λ (xs : List Action). Knows l s.writes xs moments (key_after s r)) (sym acts) knows);
-      chosen = subst (λ (xs : List Action). ChoosesLeast s.image s.writes xs moments) (sym acts) chosen;
+      chosen = subst (λ (xs : List Action). AreLeastSources s.image s.writes xs moments) (sym acts) chosen;
       judged = subst (λ (k : Key). AreJudged s.writes (did (after s r moment)) k) (sym next_is)
           (subst (λ (xs : List Action). AreJudged s.writes xs (key_after s r)) (sym acts) judged);
       floor = follows.floor ∙ ap (λ n. max n (floor_asked old.last_read (does s r))) stands.floor

@@ -1,4 +1,4 @@
-use Rattle.std.proofs.Common.{ℕ, ◌≡◌, ◌+◌, ◌-◌, ◌<◌, Bool, true, false, IsTrue, Option, Some, None, List, [], ◌∷◌, ◌++◌, length, take, zero, suc, refl, sym, ap, ◌∙◌, subst, inl, inr, arith}
+use Rattle.std.proofs.Common.{ℕ, ◌≡◌, ◌≢◌, ◌+◌, ◌-◌, ◌<◌, Bool, true, false, IsTrue, Option, Some, None, List, [], ◌∷◌, ◌++◌, length, take, zero, suc, refl, sym, ap, ◌∙◌, subst, inl, inr, arith}
 use Rattle.std.specs.List.{slice_get}
 use Rattle.std.specs.Option.{option_to_list, option_map_or}
 use Rattle.std.specs.Prelude.{if◌then◌else◌}
@@ -14,15 +14,16 @@ use Rattle.dt_record.specs.declared.records.Record.{Record}
 use Rattle.dt_record.specs.declared.writes.Write.{Write}
 use Rattle.dt_record.specs.Actions.{Action, Stored, Drained, Fenced, Loaded, Atomic as Accessed}
 use Rattle.dt_record.specs.Lawful.{is_atomic_place}
-use Rattle.dt_record.specs.LoadSources.{is_within, origin_at, origin_of, origin_of_key}
+use Rattle.dt_record.specs.LoadSources.{AreLeastSources, is_within, origin_at, origin_of, origin_of_key}
 use Rattle.dt_record.specs.Memory.{moment_of, source_at}
 use Rattle.dt_record.specs.Writes.{write_of_record}
 use Rattle.dt_local.specs.LocalMemory.{LocalMemory, local_memory, newest_of, greater}
 use Rattle.dt_reference.specs.HartActions.{acquires, reads_memory}
 use Rattle.dt_reference.specs.Meaning.{meaning_of}
-use Rattle.dt_sources.specs.Choice.{ChoosesLeast, LeastChoiceGoesOn, with_moment}
+use Rattle.dt_sources.specs.Choice.{LeastChoiceGoesOn, LeastChoiceIsLeast, then_action, with_moment}
 use Rattle.dt_sources.specs.Finding.{AreSourcesAt}
 use Rattle.dt_sources.specs.Knowing.{Knows, IsGreatest, IsKnownKey, KnowingGoesOn, NotesAreAdded, write_key, covering_key}
+use Rattle.dt_versions.specs.History.{are_in_order}
 use Rattle.dt_hart.specs.Following.{read_key, read_by, noted_by}
 use Rattle.dt_hart.specs.HartView.{HartView}
 use Rattle.dt_hart.specs.OwnWrites.{GoesOn}
@@ -218,19 +219,31 @@ known_after laws added old new s r g moment sources knows notes known placed (At
     atomic_known laws added old new s r g sources moment knows notes x (rw x.is at placed) (rw x.is at known)
 known_after laws added old new s r g moment sources knows notes known placed (Drains d) = drain_known laws added old new s r g sources moment knows notes d
 
--- the loads have read at the least moments that fit
-pub chosen_after : LeastChoiceGoesOn → (s : Setting) (r : Record) (moment : ℕ) (sources : Sources) → ChoosesLeast s.image s.writes (did s) s.moments
-    → IsRead s (does s r) moment sources → Kind (key_in s r) r.body → ChoosesLeast s.image s.writes (did s ++ option_to_list (does s r)) (moments_after s (does s r) moment)
-chosen_after laws s r moment sources chosen known (Idle idle) =
-    rw idle.action (subst (λ (l : List Action). ChoosesLeast s.image s.writes l s.moments) (sym (append-nil (did s))) chosen)
-chosen_after laws s r moment sources chosen known (Loads load) =
+-- the laws of the least choice that the moments of the loads go on by
+pub record ChoiceLaws : Type 0 where
+  pub goes_on : LeastChoiceGoesOn
+  pub is_least : LeastChoiceIsLeast
+
+-- an action that is no load leaves them
+other_after : ChoiceLaws → (image : List ℕ) (writes : List Write) (actions : List Action) (moments : ℕ → ℕ) (action : Action) → IsTrue (are_in_order writes)
+    → AreLeastSources image writes actions moments → ((ask : LoadAsk) → action ≢ Loaded ask) → AreLeastSources image writes (then_action actions action) moments
+other_after laws image writes actions moments action ordered chosen no_load =
+    (laws.is_least image writes (then_action actions action) moments ordered).0
+    (laws.goes_on.other image writes actions moments action ((laws.is_least image writes actions moments ordered).1 chosen) no_load)
+
+-- the loads have read at the moments of the least fitting assignment
+pub chosen_after : ChoiceLaws → (s : Setting) (r : Record) (moment : ℕ) (sources : Sources) → IsTrue (are_in_order s.writes) → AreLeastSources s.image s.writes (did s) s.moments
+    → IsRead s (does s r) moment sources → Kind (key_in s r) r.body → AreLeastSources s.image s.writes (did s ++ option_to_list (does s r)) (moments_after s (does s r) moment)
+chosen_after laws s r moment sources ordered chosen known (Idle idle) =
+    rw idle.action (subst (λ (l : List Action). AreLeastSources s.image s.writes l s.moments) (sym (append-nil (did s))) chosen)
+chosen_after laws s r moment sources ordered chosen known (Loads load) =
     let least : ReadsLeast s load.ask moment sources = rw load.action at known in
-    rw load.action (laws.load s.image s.writes (did s) s.moments load.ask moment chosen least.fits least.least)
-chosen_after laws s r moment sources chosen known (Stores store) =
-    rw store.action (laws.other s.image s.writes (did s) s.moments (Stored store.store) chosen (λ ask is. cc is))
-chosen_after laws s r moment sources chosen known (Fences f) =
-    rw f.action (laws.other s.image s.writes (did s) s.moments (Fenced f.ww f.wr f.rr) chosen (λ ask is. cc is))
-chosen_after laws s r moment sources chosen known (Atomics x) =
-    rw x.is (laws.other s.image s.writes (did s) s.moments (its_action (key_in s r) x) chosen (λ ask is. cc is))
-chosen_after laws s r moment sources chosen known (Drains d) =
-    rw d.is (laws.other s.image s.writes (did s) s.moments (Drained (key_in s r) d.line d.count) chosen (λ ask is. cc is))
+    rw load.action least.chosen
+chosen_after laws s r moment sources ordered chosen known (Stores store) =
+    rw store.action (other_after laws s.image s.writes (did s) s.moments (Stored store.store) ordered chosen (λ ask is. cc is))
+chosen_after laws s r moment sources ordered chosen known (Fences f) =
+    rw f.action (other_after laws s.image s.writes (did s) s.moments (Fenced f.ww f.wr f.rr) ordered chosen (λ ask is. cc is))
+chosen_after laws s r moment sources ordered chosen known (Atomics x) =
+    rw x.is (other_after laws s.image s.writes (did s) s.moments (its_action (key_in s r) x) ordered chosen (λ ask is. cc is))
+chosen_after laws s r moment sources ordered chosen known (Drains d) =
+    rw d.is (other_after laws s.image s.writes (did s) s.moments (Drained (key_in s r) d.line d.count) ordered chosen (λ ask is. cc is))

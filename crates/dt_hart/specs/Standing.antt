@@ -4,8 +4,8 @@ use Rattle.dt_record.specs.declared.keys.Key.{Key}
 use Rattle.dt_record.specs.declared.records.Record.{Record}
 use Rattle.dt_record.specs.Actions.{order_floor, last_read}
 use Rattle.dt_record.specs.Keys.{key_below}
+use Rattle.dt_record.specs.LoadSources.{AreLeastSources}
 use Rattle.dt_local.specs.LocalMemory.{local_memory}
-use Rattle.dt_sources.specs.Choice.{ChoosesLeast}
 use Rattle.dt_sources.specs.Knowing.{Knows, AreJudged}
 use Rattle.dt_stores.specs.Standing.{StandsFor as Keeps}
 use Rattle.dt_windows.specs.Kept.{StandsFor as KeepsFences}
@@ -16,14 +16,14 @@ use Rattle.dt_hart.specs.Reserving.{reserved_in}
 use Rattle.dt_hart.specs.Settings.{Setting, arch_of, did, key_in, next_key, last_stamp}
 
 -- What is kept of a hart stands for a setting (this project's own): it is what the hart's records before leave, and the
--- loads among these read at the least moments that fit.
+-- loads among these read at the moments of the least fitting assignment.
 pub record StandsFor (h : HartView) (s : Setting) : Type 0 where
   pub seq : h.seq ≡ length s.before
   pub stamp : h.stamp ≡ last_stamp s.before
   pub arch : h.arch ≡ arch_of s
   pub stores : Keeps h.stores (did s)
   pub knows : Knows (local_memory h.keys None) s.writes (did s) s.moments (next_key s)
-  pub chosen : ChoosesLeast s.image s.writes (did s) s.moments
+  pub chosen : AreLeastSources s.image s.writes (did s) s.moments
   pub judged : AreJudged s.writes (did s) (next_key s)
   pub floor : h.floor ≡ order_floor (did s)
   pub last_read : h.last_read ≡ last_read (did s)

@@ -1,4 +1,4 @@
-use Rattle.std.specs.Prelude.{ℕ, ◌≡◌, ◌+◌, ◌<◌, ◌≤◌, ◌%◌, ◌==◌, ◌&&◌, ◌||◌, Bool, true, false, not, Option, Some, List, slice_get, IsTrue}
+use Rattle.std.specs.Prelude.{ℕ, ◌≡◌, ◌+◌, ◌<◌, ◌%◌, ◌==◌, ◌&&◌, ◌||◌, Bool, true, false, not, Option, Some, List, length, slice_get, IsTrue}
 use Rattle.dt_record.specs.declared.accesses.LoadAsk.{LoadAsk}
 use Rattle.dt_record.specs.declared.keys.Key.{Key}
 use Rattle.dt_record.specs.declared.origins.Sources.{Sources}
@@ -8,11 +8,11 @@ use Rattle.dt_record.specs.declared.records.Body.TheVariants.{Drain}
 use Rattle.dt_record.specs.declared.writes.Write.{Write}
 use Rattle.dt_record.specs.Actions.{Action, Stored, Fenced, Loaded, Atomic}
 use Rattle.dt_record.specs.Lawful.{is_in_ram, is_atomic_place}
-use Rattle.dt_record.specs.LoadSources.{origin_of_key}
+use Rattle.dt_record.specs.LoadSources.{origin_of_key, AreLeastSources}
 use Rattle.dt_record.specs.Memory.{source_at, moment_of}
 use Rattle.dt_reference.specs.HartActions.{width_of}
 use Rattle.dt_reference.specs.Meaning.{meaning_of}
-use Rattle.dt_sources.specs.Choice.{FitsNext}
+use Rattle.dt_sources.specs.Choice.{then_action, with_moment}
 use Rattle.dt_sources.specs.Finding.{AreSourcesAt, is_load_place}
 use Rattle.dt_stores.specs.declared.answers.DrainAnswer.TheVariants.{Took}
 use Rattle.dt_stores.specs.Draining.{drain_answer}
@@ -43,10 +43,10 @@ is_placed_at bits addr =
     let width = width_of (meaning_of bits) in
     not (is_in_ram addr) || (is_store_width width && (addr % width == 0))
 
--- a load from RAM read at this moment, the least that fits, and its bytes come from these sources
+-- a load from RAM read at this moment, in the least fitting assignment of the loads up to it, and its bytes come from
+-- these sources
 pub record ReadsLeast (s : Setting) (ask : LoadAsk) (moment : ℕ) (sources : Sources) : Type 0 where
-  pub fits : FitsNext s.image s.writes (did s) s.moments ask moment
-  pub least : (k : ℕ) → FitsNext s.image s.writes (did s) s.moments ask k → moment ≤ k
+  pub chosen : AreLeastSources s.image s.writes (then_action (did s) (Loaded ask)) (with_moment s.moments (length (did s)) moment)
   pub origins : AreSourcesAt s.writes (did s) ask moment sources
 
 -- an atomic with this key had its bytes from the writes with smaller keys

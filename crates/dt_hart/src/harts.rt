@@ -16,7 +16,7 @@ use dt_judged::judged_goes_on;
 use dt_local::Local;
 use dt_record::{Key, Record, Sources};
 use dt_reference::{actions_go_on, advance, start, state_goes_on};
-use dt_sources::{knowing_goes_on, least_choice_goes_on, notes_are_added};
+use dt_sources::{knowing_goes_on, least_choice_goes_on, least_choice_is_least, notes_are_added};
 use dt_step::Arch;
 use dt_stores::Stores;
 use dt_windows::Windows;
@@ -166,6 +166,7 @@ impl Hart {
         knowing_goes_on();
         notes_are_added();
         least_choice_goes_on();
+        least_choice_is_least();
         judged_goes_on();
         take_effects(
             &mut self.accesses,

@@ -2,6 +2,7 @@ use Rattle.std.proofs.Common.{ℕ, ◌≡◌, ◌==◌, ◌||◌, Bool, true, fa
 use Rattle.std.specs.Prelude.{IfOk}
 use Rattle.std.specs.Option.{option_map_or}
 use Rattle.std.proofs.lemmas.Bool.{cases_Bool}
+use Rattle.dt_access.specs.Translating.{atomic_access}
 use Rattle.dt_atomics.specs.declared.accesses.AtomicAccess.{AtomicAccess}
 use Rattle.dt_atomics.specs.Answers.{IsAtomicAnswer}
 use Rattle.dt_atomics.specs.Asking.{reads}
@@ -27,7 +28,6 @@ use Rattle.dt_step.specs.declared.plans.Planned.TheVariants.{NeedsAtomic, Raises
 use Rattle.dt_step.specs.declared.state.Arch.{Arch}
 use Rattle.dt_step.specs.Causes.{due_cause, due_tval}
 use Rattle.dt_step.specs.Plans.{legal_plan, pages_of, plan_of}
-use Rattle.dt_traps.specs.Instructions.{atomic_access}
 use Rattle.dt_judge.specs.declared.atomics.Said.{Said}
 use Rattle.dt_judge.specs.Grounds.{Grounds}
 use Rattle.dt_judge.specs.Keeping.{IsAccessedBy, IsReadIn}

@@ -1,4 +1,4 @@
-use Rattle.std.proofs.Common.{ℕ, ◌||◌, Bool, true, false, Some, List, [], ◌∷◌, length, take, Result, Ok, Err, sym, ap, ◌∙◌, inl, inr}
+use Rattle.std.proofs.Common.{ℕ, ◌||◌, Bool, true, false, Some, List, length, take, Result, Ok, Err, sym, ap, ◌∙◌, inl, inr}
 use Rattle.dt_record.specs.declared.accesses.LoadAsk.{LoadAsk}
 use Rattle.dt_record.specs.declared.keys.Key.{Key}
 use Rattle.dt_record.specs.declared.records.Body.{Body}
@@ -7,6 +7,7 @@ use Rattle.dt_record.specs.declared.records.Record.{Record}
 use Rattle.dt_record.specs.declared.writes.Write.{Write}
 use Rattle.dt_record.specs.Actions.{Action, Loaded}
 use Rattle.dt_record.specs.Lawful.{is_in_ram}
+use Rattle.dt_access.specs.Translating.{atomic_access}
 use Rattle.dt_atomics.specs.declared.accesses.AtomicAccess.{AtomicAccess}
 use Rattle.dt_atomics.specs.Answers.{AtomicPasses, IsAtomicAnswer}
 use Rattle.dt_atomics.specs.Reading.{ReadsNewer}
@@ -15,30 +16,22 @@ use Rattle.dt_loads.specs.declared.reading.Passed.{Passed}
 use Rattle.dt_loads.specs.Checks.{order_check}
 use Rattle.dt_loads.specs.Reading.{HasNewer, IsLoadAnswer, IsNewer, IsReading, ask_of}
 use Rattle.dt_rules.specs.declared.misfits.Misfit.{Misfit}
-use Rattle.dt_sources.specs.Choice.{FitsNext, then_action}
+use Rattle.dt_sources.specs.Choice.{then_action, with_moment}
 use Rattle.dt_sources.specs.Knowing.{IsKnownKey}
 use Rattle.dt_step.specs.declared.plans.Planned.{Planned}
 use Rattle.dt_step.specs.declared.plans.Planned.TheVariants.{Done, NeedsLoad, NeedsStore, NeedsAtomic, Csr, Returns, Fences, FenceI, FencesPages, Raises}
-use Rattle.dt_traps.specs.Instructions.{atomic_access}
 use Rattle.dt_walk.specs.declared.arguments.Access.TheVariants as access
 use Rattle.dt_judge.specs.declared.atomics.Said.{Said}
 use Rattle.dt_judge.specs.Grounds.{Grounds, grounds_of}
 use Rattle.dt_judge.specs.Judgement.{FindsBody, Finds}
 use Rattle.dt_judge.specs.Kinds.{Accesses, AtomicBy, Leads, Loads, LoadsBy, ReadsRam, access_in, accessed, atomic_on, started}
 use Rattle.dt_judge.specs.Laws.{AgreeAtLoads, with_moments}
-use Rattle.dt_judge.proofs.LoadMoments.{fits_along, same_actions, same_origin, slice_get-append_left}
+use Rattle.dt_judge.proofs.LoadMoments.{agree_next, least_again, same_origin}
 
 -- Moments that agree at the hart's loads so far give the same findings.
 
 back : (actions : List Action) (moments others : ℕ → ℕ) → AgreeAtLoads actions moments others → AgreeAtLoads actions others moments
 back actions moments others agree = λ place ask there. sym (agree place ask there)
-
-fits_next : (image : List ℕ) (writes : List Write) (actions : List Action) (moments others : ℕ → ℕ) (ask : LoadAsk) (k : ℕ) → AgreeAtLoads actions moments others
-    → FitsNext image writes actions moments ask k → FitsNext image writes actions others ask k
-fits_next image writes actions moments others ask k agree fits =
-    let longer : List Action = then_action actions (Loaded ask) in
-    fits_along image writes longer longer moments others (length actions) ask k
-    (same_actions (length actions) longer moments others (λ m a before there. agree m a (sym (slice_get-append_left actions (Loaded ask ∷ []) m before) ∙ there))) fits
 
 known_key : (writes : List Write) (actions : List Action) (moments others : ℕ → ℕ) (next : Key) (byte : ℕ) (key : Key) → AgreeAtLoads actions moments others
     → IsKnownKey writes actions moments next byte key → IsKnownKey writes actions others next byte key
@@ -68,8 +61,9 @@ reading : (image : List ℕ) (writes : List Write) (actions : List Action) (mome
 reading image writes actions moments others ask passed agree is =
     let again = back actions moments others agree in record {
       moment = is.moment;
-      fits = fits_next image writes actions moments others ask is.moment agree is.fits;
-      least = λ k fits. is.least k (fits_next image writes actions others moments ask k again fits);
+      chosen =
+          least_again image writes (then_action actions (Loaded ask)) (with_moment moments (length actions) is.moment) (with_moment others (length actions) is.moment)
+          (agree_next actions (Loaded ask) moments others is.moment agree) is.chosen;
       sources = is.sources;
       newer = (
         λ l. has_newer writes actions moments others ask is.moment agree (is.newer.0 l),
@@ -81,9 +75,7 @@ reading image writes actions moments others ask passed agree is =
 load_answer : (image : List ℕ) (writes : List Write) (actions : List Action) (moments others : ℕ → ℕ) (ask : LoadAsk) (signed : Bool) (value : ℕ) (answer : Result Passed Misfit)
     → AgreeAtLoads actions moments others → IsLoadAnswer image writes actions moments ask signed value answer → IsLoadAnswer image writes actions others ask signed value answer
 load_answer image writes actions moments others ask signed value (Ok passed) agree is = (is.0, reading image writes actions moments others ask passed agree is.1)
-load_answer image writes actions moments others ask signed value (Err refused) agree (inl differs, why) = (inl differs, why)
-load_answer image writes actions moments others ask signed value (Err refused) agree (inr none, why) =
-    (inr (λ k fits. none k (fits_next image writes actions others moments ask k (back actions moments others agree) fits)), why)
+load_answer image writes actions moments others ask signed value (Err refused) agree is = is
 
 -- what leads to a finding leads to the same one
 leads_too : {A : Type 0} (r : Result A Misfit) (Later Other : A → Result Passed Misfit → Type 0) (f : Result Passed Misfit) → ((x : A) → Later x f → Other x f) → Leads r Later f → Leads r Other f

@@ -1,11 +1,12 @@
 use Rattle.std.proofs.Common.{ℕ, ◌≡◌, ◌≤◌, ◌||◌, Bool, true, false, List, ◌++◌, length, take, Result, Ok, Err, IsTrue, refl, sym, ap, subst, ◌∙◌, arith}
+use Rattle.std.specs.List.{list_all}
 use Rattle.std.proofs.lemmas.List.{take-append-le}
+use Rattle.dt_access.specs.Translating.{atomic_access, walk_args}
 use Rattle.dt_atomics.specs.declared.accesses.AtomicAccess.{AtomicAccess}
 use Rattle.dt_atomics.specs.Answers.{IsAtomicAnswer}
 use Rattle.dt_atomics.specs.Laws.{FirstWritesDecideAtomics}
 use Rattle.dt_checks.specs.declared.starting.Started.{Started}
 use Rattle.dt_checks.specs.Laws.{BeginAlike, SameAddresses, SameStarts}
-use Rattle.dt_checks.specs.Translating.{walk_args}
 use Rattle.dt_commits.specs.Undrained.{undrained_check}
 use Rattle.dt_commits.specs.Values.{commit_value_check}
 use Rattle.dt_drains.specs.Draining.{store_data_check}
@@ -27,7 +28,6 @@ use Rattle.dt_rules.specs.declared.misfits.TheConstants.{NO_LETTERS}
 use Rattle.dt_rules.specs.Checks.{and_then}
 use Rattle.dt_step.specs.declared.plans.Planned.{Planned}
 use Rattle.dt_step.specs.declared.plans.Planned.TheVariants.{Done, NeedsLoad, NeedsStore, NeedsAtomic, Csr, Returns, Fences, FenceI, FencesPages, Raises}
-use Rattle.dt_traps.specs.Instructions.{atomic_access}
 use Rattle.dt_traps.specs.Laws.{SameTraps}
 use Rattle.dt_versions.specs.declared.moments.Span.{Span}
 use Rattle.dt_versions.specs.History.{History}
@@ -39,7 +39,8 @@ use Rattle.dt_judge.specs.Judgement.{FindsBody}
 use Rattle.dt_judge.specs.Judging.{are_later}
 use Rattle.dt_judge.specs.Keeping.{fetch_kept, grounds_kept, window_kept}
 use Rattle.dt_judge.specs.Kinds.{Accesses, AtomicBy, Leads, Loads, LoadsBy, ReadsRam, access_in, accessed, atomic_on, fine, passed, refill_finding, seen_by, started, stored, trap_spans}
-use Rattle.dt_judge.proofs.LaterReads.{Steady, answer_more}
+use Rattle.dt_judge.proofs.LaterFits.{Steady, is_seen}
+use Rattle.dt_judge.proofs.LaterReads.{answer_more}
 use Rattle.dt_judge.proofs.LaterWrites.{first_same, last_same, last_within}
 
 -- What is found of a record is the same with writes of later cycles.
@@ -62,7 +63,7 @@ ReadsUntil stamp (Load retire at paddr) = at ≤ stamp
 ReadsUntil stamp body = Unit {0}
 
 module _ (laws : CheckLaws) (h : HartView) (m : History) (later : List Write) (stamp : ℕ) (after : IsTrue (are_later stamp later)) (last : ℕ) (within : last ≤ length m.writes)
-    (actions : List Action) (moments : ℕ → ℕ) (steady : Steady m.writes later actions moments) where
+    (actions : List Action) (moments : ℕ → ℕ) (steady : Steady m.writes later actions moments) (seen : IsTrue (list_all (is_seen stamp) actions)) where
   abbrev few : Grounds
   few = grounds_kept h m last actions moments
 
@@ -95,7 +96,7 @@ module _ (laws : CheckLaws) (h : HartView) (m : History) (later : List Write) (s
   stored_same stale (Raises cause tval) paddr value = refl
 
   reads_ram : (p : Bool) (ask : LoadAsk) (signed : Bool) (value : ℕ) (f : Result Passed Misfit) → ask.at ≤ stamp → ask.key.stamp ≤ stamp → ReadsRam few p ask signed value f → ReadsRam more p ask signed value f
-  reads_ram p ask signed value f at early is = (is.0, is.1, answer_more m.writes later stamp after actions moments steady m.image ask signed value is.0 at early is.2, is.3)
+  reads_ram p ask signed value f at early is = (is.0, is.1, answer_more m.writes later stamp after actions moments steady seen m.image ask signed value is.0 (record { at = at; key = early }) is.2, is.3)
 
   loads : (in_ram p : Bool) (ask : LoadAsk) (signed : Bool) (value : ℕ) (f : Result Passed Misfit) → ask.at ≤ stamp → ask.key.stamp ≤ stamp → Loads in_ram few p ask signed value f → Loads in_ram more p ask signed value f
   loads true p ask signed value f at early is =

@@ -1,8 +1,11 @@
+mod AFinding
+mod AnEnd
 mod AtomicReads
 mod EarlierMoments
 mod FirstVisible
 mod LastVisible
 mod LaterFindings
+mod LaterFits
 mod LaterReads
 mod LaterWrites
 mod Leading
@@ -11,6 +14,7 @@ mod Meeting
 mod OneEnd
 mod OneFinding
 mod Placing
+mod PlannedBy
 mod Readings
 mod SeenActions
 mod Widths

@@ -1,18 +1,20 @@
-use Rattle.std.proofs.Common.{ℕ, ◌≡◌, ◌+◌, ◌<◌, ◌≤◌, false, Option, Some, None, List, [], ◌∷◌, ◌++◌, length, take, zero, suc, refl, sym, ap, ◌∙◌, subst, arith}
+use Rattle.std.proofs.Common.{ℕ, ◌≡◌, ◌≢◌, ◌==◌, ◌<◌, ◌≤◌, false, Option, Some, None, List, [], ◌∷◌, ◌++◌, length, take, zero, suc, refl, sym, ap, ◌∙◌, subst, inl, inr, IsTrue, arith}
 use Rattle.std.specs.Prelude.{IfSome}
 use Rattle.std.specs.List.{slice_get}
-use Rattle.std.proofs.lemmas.List.{take-append-le}
+use Rattle.std.proofs.lemmas.Bool.{cases_eq, cond-true, cond-false, eq-eqb, ne_eqb}
+use Rattle.std.proofs.lemmas.List.{length-append, take-append-le}
 use Rattle.std.proofs.lemmas.Option.{slice_get_within}
 use Rattle.dt_record.specs.declared.accesses.LoadAsk.{LoadAsk}
 use Rattle.dt_record.specs.declared.origins.Origin.{Origin}
 use Rattle.dt_record.specs.declared.writes.Write.{Write}
 use Rattle.dt_record.specs.Actions.{Action, Stored, Drained, Fenced, Loaded, Atomic}
-use Rattle.dt_record.specs.LoadSources.{FitsLoad, KeepsFloor, Rank, origin_at, rank, rank_below}
-use Rattle.dt_sources.specs.Choice.{ChoosesLeast, FitsThere}
+use Rattle.dt_record.specs.LoadSources.{AreLeastSources, Fits, FitsLoad, KeepsFloor, Rank, origin_at, rank, rank_below}
+use Rattle.dt_sources.specs.Choice.{ChoosesLeast, FitsThere, LeastChoiceIsLeast, then_action, with_moment}
+use Rattle.dt_versions.specs.History.{are_in_order}
 use Rattle.dt_judge.specs.Laws.{AgreeAtLoads}
 
--- What a load may read depends on the actions before it and the moments of the loads among these alone, so least choices
--- are made in one way.
+-- What a load may read depends on the actions before it and the moments of the loads among these alone, so there is one
+-- least fitting assignment.
 
 pub slice_get-append_left : {X : Type 0} (xs ys : List X) (i : ℕ) → i < length xs → slice_get (xs ++ ys) i ≡ slice_get xs i
 slice_get-append_left [] ys i within = absurd (omega arith)
@@ -98,12 +100,71 @@ same_longer place actions more moments within = record {
   moment = λ m ask before there. refl;
 }
 
--- ---- least choices
+-- ---- assignments
+
+-- an assignment that agrees at each load fits where this one does
+pub fits_again : (image : List ℕ) (writes : List Write) (actions : List Action) (moments others : ℕ → ℕ) → AgreeAtLoads actions moments others
+    → Fits image writes actions moments → Fits image writes actions others
+fits_again image writes actions moments others agree fits place ask there =
+    subst (λ k. FitsThere image writes actions others place ask k) (sym (agree place ask there))
+    (fits_along image writes actions actions moments others place ask (moments place) (same_actions place actions moments others (λ m a before at. agree m a at)) (fits place ask there))
+
+-- and is the least where this one is
+pub least_again : (image : List ℕ) (writes : List Write) (actions : List Action) (moments others : ℕ → ℕ) → AgreeAtLoads actions moments others
+    → AreLeastSources image writes actions moments → AreLeastSources image writes actions others
+least_again image writes actions moments others agree are = record {
+  fits = fits_again image writes actions moments others agree are.fits;
+  least = λ again fits place ask there. subst (λ k. k ≤ again place) (sym (agree place ask there)) (are.least again fits place ask there);
+}
+
+-- two least ones agree
+pub least_agree : (image : List ℕ) (writes : List Write) (actions : List Action) (moments others : ℕ → ℕ)
+    → AreLeastSources image writes actions moments → AreLeastSources image writes actions others → AgreeAtLoads actions moments others
+least_agree image writes actions moments others one other place ask there =
+    let low = one.least others other.fits place ask there in
+    let high = other.least moments one.fits place ask there in
+    omega arith
+
+-- ---- a next load
+
+pub moment_here : (moments : ℕ → ℕ) (place k : ℕ) → with_moment moments place k place ≡ k
+moment_here moments place k = cond-true (place == place) k (moments place) (eq-eqb place place refl)
+
+pub moment_elsewhere : (moments : ℕ → ℕ) (place k n : ℕ) → n ≢ place → with_moment moments place k n ≡ moments n
+moment_elsewhere moments place k n apart = cond-false (n == place) k (moments n) (ne_eqb n place apart)
+
+pub at_seam : {X : Type 0} (xs : List X) (y : X) (ys : List X) → slice_get (xs ++ y ∷ ys) (length xs) ≡ Some y
+at_seam [] y ys = refl
+at_seam (x ∷ xs) y ys = at_seam xs y ys
+
+pub agree_next : (actions : List Action) (action : Action) (moments others : ℕ → ℕ) (k : ℕ) → AgreeAtLoads actions moments others
+    → AgreeAtLoads (then_action actions action) (with_moment moments (length actions) k) (with_moment others (length actions) k)
+agree_next actions action moments others k agree place ask there = elim (cases_eq place (length actions)) [
+  | inl same ↦ subst (λ n. with_moment others (length actions) k n ≡ with_moment moments (length actions) k n) (sym same)
+      (moment_here others (length actions) k ∙ sym (moment_here moments (length actions) k))
+  | inr apart ↦
+      let within = slice_get_within (then_action actions action) place (Loaded ask) there in
+      let before : place < length actions = omega (arith, length-append actions (action ∷ [])) in
+      moment_elsewhere others (length actions) k place apart
+      ∙ agree place ask (sym (slice_get-append_left actions (action ∷ []) place before) ∙ there)
+      ∙ sym (moment_elsewhere moments (length actions) k place apart)
+]
+
+-- the load fits at its moment
+pub next_fits : (image : List ℕ) (writes : List Write) (actions : List Action) (moments : ℕ → ℕ) (ask : LoadAsk) (k : ℕ)
+    → Fits image writes (then_action actions (Loaded ask)) (with_moment moments (length actions) k)
+    → FitsThere image writes (then_action actions (Loaded ask)) (with_moment moments (length actions) k) (length actions) ask k
+next_fits image writes actions moments ask k fits =
+    let place = length actions in
+    let others : ℕ → ℕ = with_moment moments place k in
+    subst (λ j. FitsThere image writes (then_action actions (Loaded ask)) others place ask j) (moment_here moments place k) (fits place ask (at_seam actions (Loaded ask) []))
+
+-- ---- first actions
 
 -- least choices are so among the first actions
-pub chosen_front : (image : List ℕ) (writes : List Write) (actions more : List Action) (moments : ℕ → ℕ)
+greedy_front : (image : List ℕ) (writes : List Write) (actions more : List Action) (moments : ℕ → ℕ)
     → ChoosesLeast image writes (actions ++ more) moments → ChoosesLeast image writes actions moments
-chosen_front image writes actions more moments chosen = record {
+greedy_front image writes actions more moments chosen = record {
   fits = λ place ask there.
       let within = slice_get_within actions place (Loaded ask) there in
       fits_along image writes (actions ++ more) actions moments moments place ask (moments place) (same_front place actions more moments (omega arith))
@@ -114,20 +175,8 @@ chosen_front image writes actions more moments chosen = record {
       (fits_along image writes actions (actions ++ more) moments moments place ask k (same_longer place actions more moments (omega arith)) fits);
 }
 
-agree_below : (image : List ℕ) (writes : List Write) (actions : List Action) (moments others : ℕ → ℕ)
-    → ChoosesLeast image writes actions moments → ChoosesLeast image writes actions others
-    → (bound place : ℕ) (ask : LoadAsk) → place < bound → slice_get actions place ≡ Some (Loaded ask) → others place ≡ moments place
-agree_below image writes actions moments others one other zero place ask below there = absurd (omega arith)
-agree_below image writes actions moments others one other (suc bound) place ask below there =
-    let same : (m : ℕ) (a : LoadAsk) → m < place → slice_get actions m ≡ Some (Loaded a) → others m ≡ moments m
-    = λ m a before at. agree_below image writes actions moments others one other bound m a (omega arith) at in
-    let low = one.least place ask there (others place)
-    (fits_along image writes actions actions others moments place ask (others place) (same_actions place actions others moments (λ m a before at. sym (same m a before at))) (other.fits place ask there)) in
-    let high = other.least place ask there (moments place)
-    (fits_along image writes actions actions moments others place ask (moments place) (same_actions place actions moments others same) (one.fits place ask there)) in
-    omega arith
-
--- two least choices agree at each load
-pub choices_agree : (image : List ℕ) (writes : List Write) (actions : List Action) (moments others : ℕ → ℕ)
-    → ChoosesLeast image writes actions moments → ChoosesLeast image writes actions others → AgreeAtLoads actions moments others
-choices_agree image writes actions moments others one other place ask there = agree_below image writes actions moments others one other (place + 1) place ask (omega arith) there
+-- the least fitting assignment is that of the first actions too, where writes stand in their order
+pub least_front : LeastChoiceIsLeast → (image : List ℕ) (writes : List Write) (actions more : List Action) (moments : ℕ → ℕ) → IsTrue (are_in_order writes)
+    → AreLeastSources image writes (actions ++ more) moments → AreLeastSources image writes actions moments
+least_front law image writes actions more moments ordered are =
+    (law image writes actions moments ordered).0 (greedy_front image writes actions more moments ((law image writes (actions ++ more) moments ordered).1 are))

@@ -1,16 +1,17 @@
-use Rattle.std.proofs.Common.{ℕ, ◌≡◌, ◌+◌, ◌≤◌, ◌&&◌, Bool, true, Option, None, Some, List, ◌++◌, length, Result, IsTrue, refl, sym, ap, subst, ◌∙◌, arith}
+use Rattle.std.proofs.Common.{ℕ, ◌≡◌, ◌+◌, ◌≤◌, ◌&&◌, Bool, true, Option, None, Some, List, [], ◌∷◌, ◌++◌, length, Result, IsTrue, refl, sym, ap, subst, ◌∙◌, arith}
 use Rattle.std.specs.Prelude.{IfSome, nat_le}
 use Rattle.std.specs.List.{list_all}
 use Rattle.std.specs.Option.{option_to_list}
 use Rattle.std.proofs.lemmas.Bool.{and_parts}
 use Rattle.std.proofs.lemmas.Bool.Decides.{nat_tests}
+use Rattle.std.proofs.lemmas.List.Folds.{list_all-append}
 use Rattle.dt_alu.specs.Words.{sum_of}
 use Rattle.dt_record.specs.declared.origins.Sources.{Sources}
 use Rattle.dt_record.specs.declared.records.Record.{Record}
 use Rattle.dt_record.specs.declared.writes.Write.{Write}
 use Rattle.dt_record.specs.Actions.{Action, Stored, Drained, Fenced, Loaded, Atomic}
 use Rattle.dt_record.specs.declared.keys.Key.{Key}
-use Rattle.dt_record.specs.Keys.{KeyBelow, key_of}
+use Rattle.dt_record.specs.Keys.{KeyBelow, key_below, key_of}
 use Rattle.dt_record.specs.KeyLaws.{KeyBelow-stamps}
 use Rattle.dt_record.specs.Lawful.{is_lawful}
 use Rattle.dt_record.specs.LoadSources.{origin_of_key}
@@ -25,7 +26,7 @@ use Rattle.dt_local.specs.LocalMemory.{local_memory}
 use Rattle.dt_rules.specs.declared.misfits.Misfit.{Misfit}
 use Rattle.dt_versions.specs.declared.moments.Span.{Span}
 use Rattle.dt_step.specs.declared.plans.Planned.{Planned}
-use Rattle.dt_versions.specs.History.{History}
+use Rattle.dt_versions.specs.History.{History, are_in_order}
 use Rattle.dt_versions.specs.Spans.{last_visible}
 use Rattle.dt_windows.specs.Fences.{covers_page, first_since, is_instruction_fence, last_fence}
 use Rattle.dt_windows.specs.Kept.{page_key}
@@ -36,9 +37,10 @@ use Rattle.dt_judge.specs.Judging.{Meets}
 use Rattle.dt_judge.specs.Keeping.{IsReadIn, Remembers, WasFound, grounds_kept, window_kept}
 use Rattle.dt_judge.specs.Kinds.{seen_by}
 use Rattle.dt_judge.proofs.LaterFindings.{CheckLaws, finds_more}
-use Rattle.dt_judge.proofs.LaterReads.{Steady, judged_less, knows_less, reading_more}
+use Rattle.dt_judge.proofs.LaterFits.{Steady, is_seen, least_less, steady}
+use Rattle.dt_judge.proofs.LaterReads.{judged_less, knows_less, reading_more}
 use Rattle.dt_judge.proofs.LaterWrites.{first_same, last_same, last_within, own_source_same}
-use Rattle.dt_judge.proofs.SeenActions.{all_seen, is_seen, record_reads, record_seen, steady}
+use Rattle.dt_judge.proofs.SeenActions.{all_seen, record_reads, record_seen}
 
 -- What is found from what is kept is what the judgement finds of a setting.
 
@@ -52,13 +54,22 @@ is_settled h m s r meets = λ i. record s { image = meets.image i; writes = meet
 -- what a body is found to be, whatever the hart did
 abbrev pub FoundAs : HartView → History → (seq last : ℕ) → Record → Result Passed Misfit → Type 0
 FoundAs h m seq last r f =
-    (actions : List Action) (moments : ℕ → ℕ) → Remembers h m.writes (key_of seq r) actions moments
+    (actions : List Action) (moments : ℕ → ℕ) → Remembers h m (key_of seq r) actions moments
     → FindsBody (grounds_kept h m last actions moments) (key_of seq r) r.body f
 
 abbrev pub FoundOf : HartView → History → (seq : ℕ) → Record → Sources → Type 0
 FoundOf h m seq r sources =
-    (actions : List Action) (moments : ℕ → ℕ) → Remembers h m.writes (key_of seq r) actions moments
+    (actions : List Action) (moments : ℕ → ℕ) → Remembers h m (key_of seq r) actions moments
     → WasFound m.image m.writes actions moments (key_of seq r) r.body sources
+
+in_order_front : (ws later : List Write) → IsTrue (are_in_order (ws ++ later)) → IsTrue (are_in_order ws)
+in_order_front [] later ordered = refl
+in_order_front (w ∷ ws) later ordered =
+    let above : Write → Bool = λ v. key_below w.key v.key in
+    let parts = and_parts (list_all above (ws ++ later)) (are_in_order (ws ++ later)) ordered in
+    let both : IsTrue (list_all above ws && list_all above later) = rw (list_all-append above ws later) at parts.0 in
+    let first : list_all above ws ≡ true = (and_parts (list_all above ws) (list_all above later) both).0 in
+    rw first (in_order_front ws later parts.1)
 
 is_at_most : {a b : ℕ} → IsTrue (nat_le a b) → a ≤ b
 is_at_most {a} {b} below = grind (arith, nat_tests)
@@ -80,10 +91,12 @@ module _ (laws : Laws) (h : HartView) (m : History) (s : Setting) (r : Record) (
   goes_on_there : GoesOn there r
   goes_on_there = subst (λ (x : Setting). GoesOn x r) (is_settled h m s r meets) meets.goes_on
 
+  seen_before : IsTrue (list_all (is_seen r.stamp) (did s))
+  seen_before = all_seen s.before r meets.goes_on.more meets.goes_on.rising meets.lawful
+
   same_origins : Steady m.writes meets.later (did s) s.moments
   same_origins =
-      steady m.writes meets.later r.stamp meets.after m.image (did s) s.moments
-      (all_seen s.before r meets.goes_on.more meets.goes_on.rising meets.lawful) stands_there.chosen.fits
+      steady m.writes meets.later r.stamp meets.after (did s) s.moments seen_before m.image stands_there.chosen.fits
 
   -- the last moment that the record may see
   abbrev end : ℕ
@@ -130,7 +143,7 @@ module _ (laws : Laws) (h : HartView) (m : History) (s : Setting) (r : Record) (
       window va = λ i. record { first = page va i; last = last i }
 
   -- what is kept remembers what the hart did
-  remembers : Remembers h m.writes (key_in s r) (did s) s.moments
+  remembers : Remembers h m (key_in s r) (did s) s.moments
   remembers =
       let known : KnowsAt h there (key_in s r) = laws.known h there r stands_there goes_on_there in
       record {
@@ -138,6 +151,8 @@ module _ (laws : Laws) (h : HartView) (m : History) (s : Setting) (r : Record) (
         floor = meets.stands.floor;
         knows = knows_less m.writes meets.later r.stamp meets.after (did s) s.moments same_origins (local_memory h.keys None) (key_in s r) (omega arith) known.knows;
         judged = judged_less m.writes meets.later r.stamp meets.after (did s) s.moments same_origins (key_in s r) (omega arith) known.judged;
+        in_order = in_order_front m.writes meets.later goes_on_there.in_order;
+        chosen = least_less m.writes meets.later r.stamp meets.after (did s) s.moments seen_before m.image stands_there.chosen;
       }
 
   pub finds : (seq : ℕ) (seen : Span) (f : Result Passed Misfit) → IsTrue (is_lawful r) → seq ≡ h.seq → seen ≡ seen_by m.writes (key_of seq r) → FoundAs h m seq seen.last r f → Finds s r f
@@ -146,7 +161,7 @@ module _ (laws : Laws) (h : HartView) (m : History) (s : Setting) (r : Record) (
       let its : FoundAs h m (length s.before) end r f = subst (λ n. FoundAs h m n (seen_by m.writes (key_of n r)).last r f) (is ∙ meets.stands.seq) here in
       let few = its (did s) s.moments remembers in
       let more =
-      finds_more laws.checks h m meets.later r.stamp meets.after end (last_within m.writes meets.later r.stamp meets.after (key_in s r) r.stamp) (did s) s.moments same_origins (key_in s r) r.body f
+      finds_more laws.checks h m meets.later r.stamp meets.after end (last_within m.writes meets.later r.stamp meets.after (key_in s r) r.stamp) (did s) s.moments same_origins seen_before (key_in s r) r.body f
       (record_reads r lawful) refl few in
       subst (λ (x : Setting). Finds x r f) (sym (is_settled h m s r meets)) (subst (λ (g : Grounds). FindsBody g (key_in s r) r.body f) (sym same_grounds) more)
 
@@ -156,8 +171,9 @@ module _ (laws : Laws) (h : HartView) (m : History) (s : Setting) (r : Record) (
       let parts = and_parts (nat_le ask.at r.stamp && nat_le ask.key.stamp r.stamp) true seen in
       let both = and_parts (nat_le ask.at r.stamp) (nat_le ask.key.stamp r.stamp) parts.0 in
       let passed : Passed = record { letters = read.0; sources = sources } in
-      let reading = reading_more m.writes meets.later r.stamp meets.after (did s) s.moments same_origins m.image ask passed (is_at_most both.0) (is_at_most both.1) read.1 in
-      (reading.moment, record { fits = reading.fits; least = reading.least; origins = reading.sources })
+      let reading = reading_more m.writes meets.later r.stamp meets.after (did s) s.moments same_origins seen_before m.image ask passed
+      (record { at = is_at_most both.0; key = is_at_most both.1 }) read.1 in
+      (reading.moment, record { chosen = reading.chosen; origins = reading.sources })
   read_action None sources seen read = (0, tt)
   read_action (Some (Stored store)) sources seen read = (0, tt)
   read_action (Some (Drained key line count)) sources seen read = (0, tt)

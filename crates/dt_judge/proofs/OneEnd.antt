@@ -1,4 +1,4 @@
-use Rattle.std.proofs.Common.{ℕ, ◌≡◌, ◌+◌, ◌≤◌, ◌++◌, Bool, Option, Some, None, List, [], ◌∷◌, length, take, get_or, zero, suc, Result, Ok, Err, refl, sym, ap, ◌∙◌, subst, inl, inr, append_assoc, arith}
+use Rattle.std.proofs.Common.{ℕ, ◌≡◌, ◌+◌, ◌≤◌, ◌++◌, Bool, Option, Some, None, List, [], ◌∷◌, length, take, get_or, zero, suc, Result, Ok, Err, refl, sym, ap, ◌∙◌, subst, inl, inr, append_assoc, IsTrue, arith}
 use Rattle.std.specs.Prelude.{option_to_list}
 use Rattle.std.specs.List.{slice_get}
 use Rattle.std.proofs.lemmas.Bool.{cases_lt}
@@ -6,20 +6,22 @@ use Rattle.std.proofs.lemmas.Option.{same_Some, slice_get-get_or, slice_get_with
 use Rattle.dt_record.specs.declared.records.Record.{Record}
 use Rattle.dt_record.specs.declared.writes.Write.{Write}
 use Rattle.dt_record.specs.Actions.{Action}
+use Rattle.dt_record.specs.LoadSources.{AreLeastSources}
 use Rattle.dt_reference.specs.HartActions.{action_of, actions_from, actions_of}
 use Rattle.dt_rules.specs.declared.misfits.Misfit.{Misfit}
 use Rattle.dt_rules.specs.declared.misfits.TheConstants.{NO_LETTERS, NO_SOURCES}
-use Rattle.dt_sources.specs.Choice.{ChoosesLeast}
+use Rattle.dt_sources.specs.Choice.{LeastChoiceIsLeast}
+use Rattle.dt_versions.specs.History.{are_in_order}
 use Rattle.dt_loads.specs.declared.reading.Passed.{Passed}
 use Rattle.dt_judge.specs.Judgement.{Finds}
 use Rattle.dt_judge.specs.Laws.{AgreeAtLoads, EarlierMomentsDecide, RecordsHaveOneFinding, RunsHaveOneEnd}
 use Rattle.dt_judge.specs.Runs.{AreAllowed, EndsAllowed, setting_at}
-use Rattle.dt_judge.proofs.LoadMoments.{choices_agree, chosen_front}
+use Rattle.dt_judge.proofs.LoadMoments.{least_agree, least_front}
 
 -- A hart's records are allowed up to one place, and the next one has one reason or none.
 
 -- the actions of the first records begin those of more of them
-actions_front : (seq count longer : ℕ) (records : List Record) → count ≤ longer
+pub actions_front : (seq count longer : ℕ) (records : List Record) → count ≤ longer
     → (more : List Action) × (actions_from seq (take longer records) ≡ actions_from seq (take count records) ++ more)
 actions_front seq zero longer records within = (actions_from seq (take longer records), refl)
 actions_front seq (suc count) zero records within = absurd (omega arith)
@@ -41,7 +43,13 @@ same_elements (x ∷ xs) (y ∷ ys) long same =
 any_passed : Passed
 any_passed = record { letters = NO_LETTERS; sources = NO_SOURCES }
 
-module _ (one_finding : RecordsHaveOneFinding) (decide : EarlierMomentsDecide) (image : List ℕ) (writes : List Write) (wide : Bool) (hart : ℕ) (records : List Record) where
+-- the laws that it rests on
+pub record Laws : Type 0 where
+  pub one_finding : RecordsHaveOneFinding
+  pub decide : EarlierMomentsDecide
+  pub is_least : LeastChoiceIsLeast
+
+module _ (laws : Laws) (image : List ℕ) (writes : List Write) (ordered : IsTrue (are_in_order writes)) (wide : Bool) (hart : ℕ) (records : List Record) where
   -- runs with these allowed records have the same moments at the loads of the records that both allow
   same_moments : (moments others : ℕ → ℕ) (allowed also : List Passed) (count : ℕ) → count ≤ length allowed → count ≤ length also
       → AreAllowed image writes wide hart records moments allowed → AreAllowed image writes wide hart records others also
@@ -49,9 +57,9 @@ module _ (one_finding : RecordsHaveOneFinding) (decide : EarlierMomentsDecide) (
   same_moments moments others allowed also count within too one other =
       let chosen = actions_front 0 count (length allowed) records within in
       let again = actions_front 0 count (length also) records too in
-      choices_agree image writes (actions_of (take count records)) moments others
-      (chosen_front image writes (actions_of (take count records)) chosen.0 moments (subst (λ actions. ChoosesLeast image writes actions moments) chosen.1 one.chosen))
-      (chosen_front image writes (actions_of (take count records)) again.0 others (subst (λ actions. ChoosesLeast image writes actions others) again.1 other.chosen))
+      least_agree image writes (actions_of (take count records)) moments others
+      (least_front laws.is_least image writes (actions_of (take count records)) chosen.0 moments ordered (subst (λ actions. AreLeastSources image writes actions moments) chosen.1 one.chosen))
+      (least_front laws.is_least image writes (actions_of (take count records)) again.0 others ordered (subst (λ actions. AreLeastSources image writes actions others) again.1 other.chosen))
 
   -- so a record up to there has one finding in both
   same_finding : (moments others : ℕ → ℕ) (count : ℕ) (r s : Record) (f g : Result Passed Misfit) → AgreeAtLoads (actions_of (take count records)) moments others
@@ -59,8 +67,8 @@ module _ (one_finding : RecordsHaveOneFinding) (decide : EarlierMomentsDecide) (
       → Finds (setting_at image writes wide hart records moments count) r f → Finds (setting_at image writes wide hart records others count) s g → f ≡ g
   same_finding moments others count r s f g agree there also is again =
       let same : r ≡ s = same_Some r s (sym there ∙ also) in
-      one_finding (setting_at image writes wide hart records others count) r f g
-      (decide (setting_at image writes wide hart records moments count) others r f agree is)
+      laws.one_finding (setting_at image writes wide hart records others count) r f g
+      (laws.decide (setting_at image writes wide hart records moments count) others r f agree is)
       (subst (λ x. Finds (setting_at image writes wide hart records others count) x g) (sym same) again)
 
   -- a place where one run ends is none at which another allows a record
@@ -107,13 +115,13 @@ module _ (one_finding : RecordsHaveOneFinding) (decide : EarlierMomentsDecide) (
           same_finding moments others n first.0 second.0 (Ok p) (Ok q) (same_moments moments others allowed also n (omega arith) (omega arith) one other) first.1 second.1 first.2 second.2 in
           cc
 
-pub runs_have_one_end : RecordsHaveOneFinding → EarlierMomentsDecide → RunsHaveOneEnd
-runs_have_one_end one_finding decide image writes wide hart records allowed others refused other one also =
-    let short = no_shorter one_finding decide image writes wide hart records allowed others refused one.moments also.moments one.are_allowed one.ends also.are_allowed in
-    let long = no_shorter one_finding decide image writes wide hart records others allowed other also.moments one.moments also.are_allowed also.ends one.are_allowed in
+pub runs_have_one_end : Laws → RunsHaveOneEnd
+runs_have_one_end laws image writes wide hart records allowed others refused other ordered one also =
+    let short = no_shorter laws image writes ordered wide hart records allowed others refused one.moments also.moments one.are_allowed one.ends also.are_allowed in
+    let long = no_shorter laws image writes ordered wide hart records others allowed other also.moments one.moments also.are_allowed also.ends one.are_allowed in
     let same : length allowed ≡ length others = omega arith in (
-      same_allowed one_finding decide image writes wide hart records one.moments also.moments allowed others one.are_allowed also.are_allowed same,
-      same_end one_finding decide image writes wide hart records one.moments also.moments (length allowed) refused other
-          (same_moments one_finding decide image writes wide hart records one.moments also.moments allowed others (length allowed) (omega arith) (omega arith) one.are_allowed also.are_allowed)
+      same_allowed laws image writes ordered wide hart records one.moments also.moments allowed others one.are_allowed also.are_allowed same,
+      same_end laws image writes ordered wide hart records one.moments also.moments (length allowed) refused other
+          (same_moments laws image writes ordered wide hart records one.moments also.moments allowed others (length allowed) (omega arith) (omega arith) one.are_allowed also.are_allowed)
           one.ends (subst (λ count. EndsAllowed image writes wide hart records also.moments count other) (sym same) also.ends),
     )

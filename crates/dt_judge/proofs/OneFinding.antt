@@ -5,6 +5,7 @@ use Rattle.dt_record.specs.declared.records.Body.{Body}
 use Rattle.dt_record.specs.declared.records.Body.TheVariants.{Commit, Trap, Regs, Csrs, Load, Store, Atomic, Drain, Refill, Beat}
 use Rattle.dt_record.specs.declared.records.Record.{Record}
 use Rattle.dt_record.specs.Lawful.{is_in_ram}
+use Rattle.dt_access.specs.Translating.{atomic_access}
 use Rattle.dt_atomics.specs.declared.accesses.AtomicAccess.{AtomicAccess}
 use Rattle.dt_atomics.specs.Laws.{AtomicsHaveOneAnswer}
 use Rattle.dt_hart.specs.Settings.{Setting, key_in}
@@ -14,7 +15,6 @@ use Rattle.dt_loads.specs.Reading.{LoadsHaveOneAnswer, ask_of}
 use Rattle.dt_rules.specs.declared.misfits.Misfit.{Misfit}
 use Rattle.dt_step.specs.declared.plans.Planned.{Planned}
 use Rattle.dt_step.specs.declared.plans.Planned.TheVariants.{Done, NeedsLoad, NeedsStore, NeedsAtomic, Csr, Returns, Fences, FenceI, FencesPages, Raises}
-use Rattle.dt_traps.specs.Instructions.{atomic_access}
 use Rattle.dt_walk.specs.declared.arguments.Access.TheVariants as access
 use Rattle.dt_judge.specs.declared.atomics.Said.{Said}
 use Rattle.dt_judge.specs.Grounds.{Grounds, grounds_of}

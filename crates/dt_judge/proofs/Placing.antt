@@ -1,17 +1,18 @@
 use Rattle.std.proofs.Common.{ℕ, ◌≡◌, ◌%◌, ◌==◌, ◌||◌, Bool, true, false, IsTrue, refl, inl, inr, arith}
 use Rattle.std.proofs.lemmas.Bool.{cases_Bool}
 use Rattle.std.proofs.lemmas.Bool.Decides.{nat_tests}
+use Rattle.dt_access.specs.Reaching.{is_reachable}
 use Rattle.dt_alu.specs.Amo.{IsAmoWidth}
 use Rattle.dt_alu.specs.Extend.{IsAccessWidth}
 use Rattle.dt_checks.specs.Addresses.{IsPlaceOf}
-use Rattle.dt_checks.specs.Retiring.{IsAlignedAtomic, IsRetired, due_tag}
+use Rattle.dt_checks.specs.Retiring.{IsRetired, due_tag}
 use Rattle.dt_hart.specs.Taking.{is_placed_at}
 use Rattle.dt_record.specs.Lawful.{is_atomic_place, is_in_ram}
 use Rattle.dt_step.specs.declared.plans.AtomicOp.{AtomicOp}
 use Rattle.dt_step.specs.declared.plans.Planned.{Planned}
 use Rattle.dt_step.specs.declared.plans.Planned.TheVariants.{Done, NeedsLoad, NeedsStore, NeedsAtomic, Csr, Returns, Fences, FenceI, FencesPages, Raises}
 use Rattle.dt_step.specs.declared.state.Arch.{Arch}
-use Rattle.dt_translate.specs.Outcomes.{is_reachable}
+use Rattle.dt_step.specs.Alignment.{IsAlignedAtomic}
 use Rattle.dt_judge.specs.Keeping.{IsPlacedBy}
 use Rattle.dt_judge.proofs.Widths.{retired_width, aligned_is_placed}
 

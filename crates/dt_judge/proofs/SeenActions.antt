@@ -1,12 +1,11 @@
-use Rattle.std.proofs.Common.{ℕ, ◌≡◌, ◌+◌, ◌≤◌, ◌&&◌, Bool, true, Option, Some, None, List, [], ◌∷◌, ◌++◌, if◌then◌else◌, IsTrue, refl, ap, inl, inr, arith}
+use Rattle.std.proofs.Common.{ℕ, ◌≡◌, ◌+◌, ◌≤◌, ◌&&◌, true, Option, Some, List, [], ◌∷◌, ◌++◌, IsTrue, refl, inl, inr, arith}
 use Rattle.std.specs.Prelude.{Contains, nat_le, nat_lt}
-use Rattle.std.specs.List.{list_all, slice_get}
+use Rattle.std.specs.List.{list_all}
 use Rattle.std.specs.Option.{option_to_list}
 use Rattle.std.proofs.lemmas.Bool.{and_parts, cases_Bool}
 use Rattle.std.proofs.lemmas.Bool.Decides.{nat_tests}
 use Rattle.std.proofs.lemmas.List.Elements.{Contains-append_right}
 use Rattle.std.proofs.lemmas.List.Folds.{list_all-append}
-use Rattle.std.proofs.lemmas.Option.{get_or_from_slice_get, slice_get_within}
 use Rattle.dt_decode.specs.declared.instructions.Instr.{Instr}
 use Rattle.dt_decode.specs.declared.instructions.Instr.TheVariants.{Fence}
 use Rattle.dt_hart.specs.OwnWrites.{are_rising}
@@ -14,25 +13,15 @@ use Rattle.dt_record.specs.declared.keys.Key.{Key}
 use Rattle.dt_record.specs.declared.records.Body.{Body}
 use Rattle.dt_record.specs.declared.records.Body.TheVariants.{Commit, Trap, Regs, Csrs, Load, Store, Atomic, Drain, Refill, Beat}
 use Rattle.dt_record.specs.declared.records.Record.{Record}
-use Rattle.dt_record.specs.declared.writes.Write.{Write}
-use Rattle.dt_record.specs.Actions.{Action, Stored, Drained, Fenced, Loaded, Atomic as Accessed}
 use Rattle.dt_record.specs.Keys.{key_of}
 use Rattle.dt_record.specs.Lawful.{body_bounds, is_in_ram, is_instruction, is_lawful}
-use Rattle.dt_record.specs.LoadSources.{Fits, is_within, origin_at, origin_of_key}
 use Rattle.dt_reference.specs.HartActions.{actions_from, body_action, commit_action}
 use Rattle.dt_reference.specs.Meaning.{meaning_of}
-use Rattle.dt_judge.specs.Judging.{are_later}
 use Rattle.dt_judge.proofs.LaterFindings.{ReadsUntil}
-use Rattle.dt_judge.proofs.LaterReads.{Steady}
-use Rattle.dt_judge.proofs.LaterWrites.{origin_same, own_source_same, passes_in, seen_within}
+use Rattle.dt_judge.proofs.LaterFits.{is_seen}
+use Rattle.dt_judge.proofs.LaterWrites.{passes_in}
 
 -- What the hart did before saw no later write.
-
--- an action of no later cycle
-abbrev pub is_seen : ℕ → Action → Bool
-is_seen stamp (Loaded ask) = nat_le ask.at stamp && nat_le ask.key.stamp stamp
-is_seen stamp (Accessed key addr width reads acquires) = nat_le key.stamp stamp
-is_seen stamp action = true
 
 commit_seen : (stamp : ℕ) (o : Option Instr) → IsTrue (list_all (is_seen stamp) (option_to_list (commit_action o)))
 commit_seen stamp (Some (Fence fm pred succ)) = refl
@@ -110,27 +99,3 @@ rising_until (x ∷ xs) r more rising =
 pub all_seen : (before : List Record) (r : Record) (more : List Record) → IsTrue (are_rising (before ++ r ∷ more)) → IsTrue (list_all is_lawful before)
     → IsTrue (list_all (is_seen r.stamp) (actions_from 0 before))
 all_seen before r more rising lawful = actions_seen r.stamp 0 before (rising_until before r more rising) lawful
-
--- so what they had is the same with later writes
-pub steady : (ws later : List Write) (stamp : ℕ) (after : IsTrue (are_later stamp later)) (image : List ℕ) (actions : List Action) (moments : ℕ → ℕ)
-    → IsTrue (list_all (is_seen stamp) actions) → Fits image (ws ++ later) actions moments → Steady ws later actions moments
-steady ws later stamp after image actions moments seen fits m action there before byte = by_action action there
-  where
-    is_seen_there : (a : Action) → slice_get actions m ≡ Some a → IsTrue (is_seen stamp a)
-    is_seen_there a at = passes_in (is_seen stamp) actions a seen (m, slice_get_within actions m a at, get_or_from_slice_get actions m a a at)
-
-    by_action : (a : Action) → slice_get actions m ≡ Some a → origin_at (ws ++ later) before (moments m) a byte ≡ origin_at ws before (moments m) a byte
-    by_action (Loaded ask) at =
-        let parts = and_parts (nat_le ask.at stamp) (nat_le ask.key.stamp stamp) (is_seen_there (Loaded ask) at) in
-        let least : IsTrue (nat_le ask.at stamp) = parts.0 in
-        let early : ask.at ≤ stamp = grind (arith, nat_tests) in
-        let fit = fits m ask at in
-        let within = seen_within ws later stamp after ask.key ask.at (moments m) early fit.visible in
-        ap (λ o. if is_within ask.addr ask.width byte then Some o else None) (origin_same ws later stamp after before ask (moments m) byte within)
-    by_action (Accessed key addr width reads acquires) at =
-        let least : IsTrue (nat_le key.stamp stamp) = is_seen_there (Accessed key addr width reads acquires) at in
-        let early : key.stamp ≤ stamp = grind (arith, nat_tests) in
-        ap (λ source. if reads && is_within addr width byte then Some (origin_of_key source) else None) (own_source_same ws later stamp after key byte early)
-    by_action (Stored store) at = refl
-    by_action (Drained key line count) at = refl
-    by_action (Fenced ww wr rr) at = refl

@@ -2,7 +2,7 @@ use Rattle.std.proofs.Common.{ℕ, ◌≡◌, ◌%◌, ◌==◌, ◌&&◌, ◌||
 use Rattle.std.specs.Option.{option_map_or}
 use Rattle.std.proofs.lemmas.Bool.{cases_Bool}
 use Rattle.dt_alu.specs.Extend.{IsAccessWidth}
-use Rattle.dt_checks.specs.Retiring.{IsAligned, IsRetired, due_tag}
+use Rattle.dt_checks.specs.Retiring.{IsRetired, due_tag}
 use Rattle.dt_decode.specs.declared.instructions.Instr.{Instr}
 use Rattle.dt_decode.specs.declared.instructions.Instr.TheVariants.{Lui, Auipc, Jal, Jalr, Branch, Load, Store, AluImm, Alu, Fence, FenceI, Lr, Sc, Amo, Csr, Ecall, Ebreak, Sret, Mret, Wfi, SfenceVma}
 use Rattle.dt_hart.specs.Taking.{is_placed_at}
@@ -12,6 +12,7 @@ use Rattle.dt_reference.specs.Meaning.{meaning_of}
 use Rattle.dt_step.specs.declared.plans.Planned.{Planned}
 use Rattle.dt_step.specs.declared.plans.Planned.TheVariants.{NeedsLoad, NeedsStore, Raises}
 use Rattle.dt_step.specs.declared.state.Arch.{Arch}
+use Rattle.dt_step.specs.Alignment.{IsAligned}
 use Rattle.dt_step.specs.Causes.{due_cause, due_tval}
 use Rattle.dt_step.specs.Plans.{legal_plan, pages_of, plan_of}
 use Rattle.dt_stores.specs.Places.{is_store_width}
@@ -60,7 +61,7 @@ by_cause_width : (a : Arch) (i : Instr) (bits : ℕ) (due : Option ℕ) → (due
 by_cause_width a i bits None access = legal_width a i bits
 by_cause_width a i bits (Some cause) access = absurd (access refl)
 
-means_width : (a : Arch) (bits : ℕ) (plan : Planned) (o : Option Instr) → IsSomeAnd o (λ i. plan ≡ plan_of a i bits) → (due_tag plan ≡ 1 → ⊥) → width_in plan ≡ width_of o
+pub means_width : (a : Arch) (bits : ℕ) (plan : Planned) (o : Option Instr) → IsSomeAnd o (λ i. plan ≡ plan_of a i bits) → (due_tag plan ≡ 1 → ⊥) → width_in plan ≡ width_of o
 means_width a bits plan None means access = absurd means
 means_width a bits plan (Some i) means access =
     ap width_in means ∙ by_cause_width a i bits (due_cause a i) (λ one. access (ap due_tag means ∙ one))

@@ -40,8 +40,8 @@ IsJudged s r (Fine letters sources) = Finds s r (Ok (record { letters = letters;
 IsJudged s r (Fail reason expected found) = Finds s r (Err (misfit reason expected found))
 IsJudged s r OutOfMemory = Unit {0}
 
--- The hart stands for its records with one more. Where that is a load from RAM, it read at the least moment that fits, and
--- the bytes of a load, an LR or an AMO come from these sources.
+-- The hart stands for its records with one more. Where that is a load from RAM, it read at its moment in the least fitting
+-- assignment, and the bytes of a load, an LR or an AMO come from these sources.
 pub record GoesOnBy (h : HartView) (s : Setting) (r : Record) (sources : Sources) : Type 0 where
   pub moment : ℕ
   pub is_read : IsRead s (does s r) moment sources

@@ -9,9 +9,9 @@ use Rattle.dt_record.specs.declared.records.Body.{Body}
 use Rattle.dt_record.specs.declared.writes.Write.{Write}
 use Rattle.dt_record.specs.Actions.{Action, Loaded, Atomic, order_floor}
 use Rattle.dt_record.specs.Lawful.{is_in_ram}
+use Rattle.dt_record.specs.LoadSources.{AreLeastSources}
 use Rattle.dt_atomics.specs.Asking.{reads}
 use Rattle.dt_checks.specs.declared.fetching.FetchSpans.{FetchSpans}
-use Rattle.dt_checks.specs.Retiring.{IsAligned}
 use Rattle.dt_hart.specs.HartView.{HartView}
 use Rattle.dt_hart.specs.Taking.{IsDrained, ReadsAtKey}
 use Rattle.dt_loads.specs.Reading.{IsReading, ask_of}
@@ -20,11 +20,12 @@ use Rattle.dt_reference.specs.HartActions.{body_action}
 use Rattle.dt_sources.specs.Knowing.{AreJudged, Knows}
 use Rattle.dt_step.specs.declared.plans.Planned.{Planned}
 use Rattle.dt_step.specs.declared.plans.Planned.TheVariants.{NeedsLoad, NeedsStore, NeedsAtomic}
+use Rattle.dt_step.specs.Alignment.{IsAligned}
 use Rattle.dt_stores.specs.Standing.{StandsFor as Keeps}
 use Rattle.dt_traps.specs.declared.traps.TrapSpans.{TrapSpans}
 use Rattle.dt_traps.specs.Instructions.{access_address}
 use Rattle.dt_versions.specs.declared.moments.Span.{Span}
-use Rattle.dt_versions.specs.History.{History}
+use Rattle.dt_versions.specs.History.{History, are_in_order}
 use Rattle.dt_windows.specs.Fences.{first_since}
 use Rattle.dt_windows.specs.Kept.{page_key}
 use Rattle.dt_judge.specs.Grounds.{Grounds}
@@ -63,12 +64,15 @@ grounds_kept h m last actions moments = record {
   window = window_kept h m.writes last;
 }
 
--- what is kept of a hart is what these actions left, of which the loads read at these moments, before a record with this key
-pub record Remembers (h : HartView) (writes : List Write) (key : Key) (actions : List Action) (moments : ℕ → ℕ) : Type 0 where
+-- What is kept of a hart is what these actions left before a record with this key: the loads among them read at these
+-- moments, which are those of the least fitting assignment, over writes that stand in the order of their keys.
+pub record Remembers (h : HartView) (m : History) (key : Key) (actions : List Action) (moments : ℕ → ℕ) : Type 0 where
   pub stores : Keeps h.stores actions
   pub floor : h.floor ≡ order_floor actions
-  pub knows : Knows (local_memory h.keys None) writes actions moments key
-  pub judged : AreJudged writes actions key
+  pub knows : Knows (local_memory h.keys None) m.writes actions moments key
+  pub judged : AreJudged m.writes actions key
+  pub in_order : IsTrue (are_in_order m.writes)
+  pub chosen : AreLeastSources m.image m.writes actions moments
 
 -- the physical address of a load or a store is aligned to its width
 abbrev pub IsPlacedBy : Planned → (paddr : ℕ) → Type 0
@@ -76,7 +80,7 @@ IsPlacedBy (NeedsLoad va width signed rd) paddr = IsAligned paddr width
 IsPlacedBy (NeedsStore va width value) paddr = IsAligned paddr width
 IsPlacedBy plan paddr = Unit {0}
 
--- a load read at the least moment that fits, and its bytes come from these sources
+-- a load has a reading with these sources
 abbrev pub HasReading : List ℕ → List Write → List Action → (ℕ → ℕ) → LoadAsk → Sources → Type 0
 HasReading image writes actions moments ask sources =
     (letters : Letters) × IsReading image writes actions moments ask (record { letters = letters; sources = sources })

@@ -3,12 +3,13 @@ use Rattle.std.specs.Option.{unwrap_or}
 use Rattle.dt_record.specs.declared.accesses.LoadAsk.{LoadAsk}
 use Rattle.dt_record.specs.declared.keys.Key.{Key}
 use Rattle.dt_record.specs.declared.origins.Letters.{Letters}
+use Rattle.dt_record.specs.declared.reasons.Reason.TheVariants.{Kind}
 use Rattle.dt_record.specs.declared.records.Retire.{Retire}
 use Rattle.dt_record.specs.declared.writes.Write.{Write}
 use Rattle.dt_record.specs.Lawful.{is_in_ram}
 use Rattle.dt_rules.specs.declared.misfits.Misfit.{Misfit}
-use Rattle.dt_rules.specs.declared.misfits.TheConstants.{NO_LETTERS, NO_SOURCES}
-use Rattle.dt_rules.specs.Checks.{and_then}
+use Rattle.dt_rules.specs.declared.misfits.TheConstants.{NO_LETTERS, NO_NUMBER, NO_SOURCES}
+use Rattle.dt_rules.specs.Checks.{and_then, misfit}
 use Rattle.dt_step.specs.declared.plans.AtomicOp.{AtomicOp}
 use Rattle.dt_step.specs.declared.plans.Planned.{Planned}
 use Rattle.dt_step.specs.declared.plans.Planned.TheVariants.{NeedsLoad, NeedsStore, NeedsAtomic}
@@ -17,13 +18,13 @@ use Rattle.dt_walk.specs.declared.arguments.Access.TheVariants as access
 use Rattle.dt_versions.specs.declared.moments.Span.{Span}
 use Rattle.dt_versions.specs.History.{history}
 use Rattle.dt_versions.specs.Spans.{first_visible, last_visible}
+use Rattle.dt_access.specs.Translating.{atomic_access, walk_args}
 use Rattle.dt_atomics.specs.declared.accesses.AtomicAccess.{AtomicAccess}
 use Rattle.dt_atomics.specs.Answers.{IsAtomicAnswer}
 use Rattle.dt_atomics.specs.Grounds.{AtomicGrounds, atomic_grounds}
 use Rattle.dt_checks.specs.declared.starting.Started.{Started}
 use Rattle.dt_checks.specs.Starting.{start_check}
 use Rattle.dt_checks.specs.Addresses.{address_check}
-use Rattle.dt_checks.specs.Translating.{walk_args}
 use Rattle.dt_commits.specs.Undrained.{undrained_check}
 use Rattle.dt_commits.specs.Values.{commit_value_check}
 use Rattle.dt_drains.specs.Draining.{store_data_check}
@@ -32,7 +33,7 @@ use Rattle.dt_loads.specs.Checks.{device_check, order_check}
 use Rattle.dt_loads.specs.Reading.{HasEightPlaces, IsLoadAnswer, ask_of}
 use Rattle.dt_refills.specs.Refilling.{refill_check}
 use Rattle.dt_traps.specs.declared.traps.TrapSpans.{TrapSpans}
-use Rattle.dt_traps.specs.Instructions.{access_address, atomic_access}
+use Rattle.dt_traps.specs.Instructions.{access_address}
 use Rattle.dt_traps.specs.Traps.{trap_check}
 use Rattle.dt_judge.specs.declared.atomics.Said.{Said}
 use Rattle.dt_judge.specs.Grounds.{Grounds}
@@ -46,6 +47,10 @@ passed letters = Ok (record { letters = letters; sources = NO_SOURCES })
 -- an allowed record of which nothing else is to be said
 abbrev pub fine : {A : Type 0} → A → Result Passed Misfit
 fine x = passed NO_LETTERS
+
+-- a record with this tag whose plan asks for another kind; the checks that it begins with let none through
+abbrev pub of_another_kind : (tag : ℕ) → Result Passed Misfit
+of_another_kind tag = Err (misfit Kind NO_NUMBER tag)
 
 -- the checks that a record of a retired instruction begins with
 abbrev pub started : Grounds → (pc bits tag : ℕ) → Result Started Misfit
@@ -81,7 +86,7 @@ stored g stale (NeedsStore va width due) paddr value =
     and_then (accessed g access.Store false va paddr) (λ older.
     and_then (store_data_check due value) (λ _.
     passed (record NO_LETTERS { p = stale || older })))
-stored g stale plan paddr value = passed NO_LETTERS
+stored g stale plan paddr value = of_another_kind 6
 
 abbrev pub store_finding : Grounds → (pc bits paddr value : ℕ) → Result Passed Misfit
 store_finding g pc bits paddr value = and_then (started g pc bits 6) (λ st. stored g st.stale st.plan paddr value)
@@ -124,7 +129,7 @@ abbrev pub LoadsBy : Grounds → Key → (stale : Bool) → Planned → (value a
 LoadsBy g key stale (NeedsLoad va width signed rd) value at paddr f =
     Leads (accessed g access.Load false va paddr)
     (λ older found. Loads (is_in_ram paddr) g (stale || older) (ask_of key at paddr width value) signed value found) f
-LoadsBy g key stale plan value at paddr f = f ≡ passed NO_LETTERS
+LoadsBy g key stale plan value at paddr f = f ≡ of_another_kind 5
 
 abbrev pub IsLoadFinding : Grounds → Key → Retire → (at paddr : ℕ) → Result Passed Misfit → Type 0
 IsLoadFinding g key retire at paddr f =
@@ -157,7 +162,7 @@ abbrev pub AtomicBy : Grounds → Key → (stale : Bool) → Planned → Said �
 AtomicBy g key stale (NeedsAtomic va width op aq rl rd operand) said f =
     Leads (accessed g (atomic_access op) true va said.paddr)
     (λ older found. Accesses g key (stale || older) (access_in op width rl operand said) found) f
-AtomicBy g key stale plan said f = f ≡ passed NO_LETTERS
+AtomicBy g key stale plan said f = f ≡ of_another_kind 7
 
 abbrev pub IsAtomicFinding : Grounds → Key → (pc bits : ℕ) → Said → Result Passed Misfit → Type 0
 IsAtomicFinding g key pc bits said f =

@@ -1,4 +1,4 @@
-use Rattle.std.specs.Prelude.{ℕ, ◌≡◌, Bool, Option, Some, List, slice_get, Result}
+use Rattle.std.specs.Prelude.{ℕ, ◌≡◌, Bool, Option, Some, List, slice_get, Result, IsTrue}
 use Rattle.dt_record.specs.declared.accesses.LoadAsk.{LoadAsk}
 use Rattle.dt_record.specs.declared.records.Record.{Record}
 use Rattle.dt_record.specs.declared.writes.Write.{Write}
@@ -6,6 +6,7 @@ use Rattle.dt_record.specs.Actions.{Action, Loaded}
 use Rattle.dt_hart.specs.Settings.{Setting, did}
 use Rattle.dt_loads.specs.declared.reading.Passed.{Passed}
 use Rattle.dt_rules.specs.declared.misfits.Misfit.{Misfit}
+use Rattle.dt_versions.specs.History.{are_in_order}
 use Rattle.dt_judge.specs.Judgement.{Finds}
 use Rattle.dt_judge.specs.Runs.{RunsTo}
 
@@ -28,10 +29,21 @@ abbrev pub EarlierMomentsDecide : Type 0
 EarlierMomentsDecide = (s : Setting) (others : ℕ → ℕ) (r : Record) (f : Result Passed Misfit)
     → AgreeAtLoads (did s) s.moments others → Finds s r f → Finds (with_moments s others) r f
 
--- A hart's records are allowed up to one place only, with the same letters and sources, and the next one, if any, has one
--- reason.
+-- Over writes that stand in the order of their keys, a hart's records are allowed up to one place only, with the same
+-- letters and sources, and the next one, if any, has one reason.
 abbrev pub RunsHaveOneEnd : Type 0
 RunsHaveOneEnd = (image : List ℕ) (writes : List Write) (wide : Bool) (hart : ℕ) (records : List Record)
-    (allowed others : List Passed) (refused other : Option Misfit)
+    (allowed others : List Passed) (refused other : Option Misfit) → IsTrue (are_in_order writes)
     → RunsTo image writes wide hart records allowed refused → RunsTo image writes wide hart records others other
     → (allowed ≡ others) × (refused ≡ other)
+
+-- Some records of a hart are allowed from the first on, and then all are or the next one has a reason.
+pub record HasEnd (image : List ℕ) (writes : List Write) (wide : Bool) (hart : ℕ) (records : List Record) : Type 0 where
+  pub allowed : List Passed
+  pub refused : Option Misfit
+  pub runs : RunsTo image writes wide hart records allowed refused
+
+-- Over writes that stand in the order of their keys, every hart's records have a run to their end.
+abbrev pub RunsHaveAnEnd : Type 0
+RunsHaveAnEnd = (image : List ℕ) (writes : List Write) (wide : Bool) (hart : ℕ) (records : List Record) → IsTrue (are_in_order writes)
+    → HasEnd image writes wide hart records

@@ -1,9 +1,9 @@
 use Rattle.std.specs.Prelude.{ℕ, ◌≡◌, Bool, Option, None, Some, List, length, take, slice_get, Ok, Err}
 use Rattle.dt_record.specs.declared.records.Record.{Record}
 use Rattle.dt_record.specs.declared.writes.Write.{Write}
+use Rattle.dt_record.specs.LoadSources.{AreLeastSources}
 use Rattle.dt_reference.specs.HartActions.{actions_of}
 use Rattle.dt_rules.specs.declared.misfits.Misfit.{Misfit}
-use Rattle.dt_sources.specs.Choice.{ChoosesLeast}
 use Rattle.dt_loads.specs.declared.reading.Passed.{Passed}
 use Rattle.dt_hart.specs.Settings.{Setting}
 use Rattle.dt_judge.specs.Judgement.{Finds}
@@ -21,10 +21,10 @@ setting_at image writes wide hart records moments number = record {
   moments = moments;
 }
 
--- The first count records of a hart are allowed, each with its letters and sources; their loads read at the least
--- moments that fit.
+-- The first records of a hart are allowed, each with its letters and sources; their loads read at the moments of the
+-- least fitting assignment.
 pub record AreAllowed (image : List ℕ) (writes : List Write) (wide : Bool) (hart : ℕ) (records : List Record) (moments : ℕ → ℕ) (allowed : List Passed) : Type 0 where
-  pub chosen : ChoosesLeast image writes (actions_of (take (length allowed) records)) moments
+  pub chosen : AreLeastSources image writes (actions_of (take (length allowed) records)) moments
   pub each : (n : ℕ) (p : Passed) → slice_get allowed n ≡ Some p
       → (r : Record) × (slice_get records n ≡ Some r) × Finds (setting_at image writes wide hart records moments n) r (Ok p)
 

@@ -30,10 +30,10 @@ pub fn finding(
     requires within { seen.last ≤ length m.now.writes }
     requires lawful { IsLawful event.now }
     requires stamp { key.stamp ≡ event.now.stamp }
-    ensures finds { (actions : List Action) (moments : ℕ → ℕ) → Remembers h.now m.now.writes key actions moments → FindsBody (grounds_kept h.now m.now seen.last actions moments) key event.now.body result }
+    ensures finds { (actions : List Action) (moments : ℕ → ℕ) → Remembers h.now m.now key actions moments → FindsBody (grounds_kept h.now m.now seen.last actions moments) key event.now.body result }
     ensures follows { OnOk result (CanFollow h.now.arch event.now.body) }
     ensures placed { OnOk result (IsTrue (is_placed (body_action key event.now.body))) }
-    ensures found { IfOk result (λ x. (actions : List Action) (moments : ℕ → ℕ) → Remembers h.now m.now.writes key actions moments → WasFound m.now.image m.now.writes actions moments key event.now.body x.sources) }
+    ensures found { IfOk result (λ x. (actions : List Action) (moments : ℕ → ℕ) → Remembers h.now m.now key actions moments → WasFound m.now.image m.now.writes actions moments key event.now.body x.sources) }
 {
     let last = seen.last;
     match &event.body {

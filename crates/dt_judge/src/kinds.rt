@@ -1,18 +1,19 @@
 ghost use Rattle.std.specs.Prelude.{◌≡◌, ◌≤◌, ℕ, List, length, IsTrue, IsOk, OnOk};
 ghost use Rattle.dt_record.specs.Actions.{Action};
 ghost use Rattle.dt_record.specs.Lawful.{are_trap_bits, is_instruction, is_ram_line};
-ghost use Rattle.dt_checks.specs.Retiring.{AccessesAligned, due_tag};
+ghost use Rattle.dt_checks.specs.Retiring.{due_tag};
 ghost use Rattle.dt_drains.specs.Draining.{drain_check};
 ghost use Rattle.dt_hart.specs.Taking.{is_placed_at};
 ghost use Rattle.dt_loads.specs.Reading.{HasEightPlaces};
 ghost use Rattle.dt_reference.specs.Run.{CanRetire};
 ghost use Rattle.dt_refills.specs.Refilling.{refill_check};
 ghost use Rattle.dt_rules.specs.Checks.{and_then};
+ghost use Rattle.dt_step.specs.Alignment.{AccessesAligned};
 ghost use Rattle.dt_stores.specs.Draining.{drain_answer};
 ghost use Rattle.dt_stores.specs.Standing.{StandsFor as Keeps};
 ghost use Rattle.dt_traps.specs.Traps.{trap_check};
 ghost use Rattle.dt_judge.specs.Keeping.{IsPlacedBy, grounds_kept, trap_kept};
-ghost use Rattle.dt_judge.specs.Kinds.{commit_finding, fine, store_finding, stored, trap_finding, with_p};
+ghost use Rattle.dt_judge.specs.Kinds.{commit_finding, fine, of_another_kind, store_finding, stored, trap_finding, with_p};
 
 use crate::spans::{accessed, started, trap_spans};
 use dt_checks::Started;
@@ -21,7 +22,7 @@ use dt_drains::{drains, store_data};
 use dt_hart::Hart;
 use dt_loads::Passed;
 use dt_record::{Key, Letters, Retire};
-use dt_rules::{Misfit, NO_LETTERS, NO_SOURCES};
+use dt_rules::{Misfit, NO_LETTERS, NO_NUMBER, NO_SOURCES, Reason};
 use dt_step::Planned;
 use dt_stores::DrainAnswer;
 use dt_versions::{Moments, Span};
@@ -32,6 +33,18 @@ pub const PLAIN: Passed = Passed {
     letters: NO_LETTERS,
     sources: NO_SOURCES,
 };
+
+/// The answer to a record with this tag whose plan asks for another kind. None comes to it: the
+/// checks that a record begins with let only its own kind through.
+pub fn of_another_kind(tag: u8) -> Result<Passed, Misfit>
+    ensures { result ≡ of_another_kind tag }
+{
+    Err(Misfit {
+        reason: Reason::Kind,
+        expected: NO_NUMBER,
+        found: u64::from(tag),
+    })
+}
 
 pub fn fine(checked: Result<(), Misfit>) -> Result<Passed, Misfit>
     ensures { result ≡ and_then checked fine }
@@ -138,7 +151,7 @@ fn stored(
                 sources: NO_SOURCES,
             })
         }
-        _ => Ok(PLAIN),
+        _ => of_another_kind(6),
     }
 }
 

@@ -1,8 +1,11 @@
 //! Laws of the judgement, for the crates above. The functions do nothing.
-ghost use Rattle.dt_judge.specs.Laws.{EarlierMomentsDecide, RecordsHaveOneFinding, RunsHaveOneEnd};
+ghost use Rattle.dt_judge.specs.Laws.{EarlierMomentsDecide, RecordsHaveOneFinding, RunsHaveAnEnd, RunsHaveOneEnd};
 
-use dt_atomics::atomics_have_one_answer;
-use dt_loads::loads_have_one_answer;
+use dt_atomics::{atomics_have_an_answer, atomics_have_one_answer};
+use dt_decode::meaning_is_well_formed;
+use dt_loads::{loads_have_an_answer, loads_have_one_answer};
+use dt_reference::actions_go_on;
+use dt_sources::{least_choice_goes_on, least_choice_is_least};
 
 /// The judgement of a record is determined by what the record is judged against.
 pub fn records_have_one_finding()
@@ -18,10 +21,25 @@ pub fn earlier_moments_decide()
 {}
 
 /// How far a hart's records are allowed, and why no further, is determined by the records, the
-/// image and the writes: there is but one choice of least moments at the loads.
+/// image and the writes: there is but one least fitting assignment of moments to the loads.
 pub fn runs_have_one_end()
     ensures { RunsHaveOneEnd }
 {
     records_have_one_finding();
     earlier_moments_decide();
+    least_choice_is_least();
+}
+
+/// Whatever a hart's records, the image and the writes are, the records are allowed up to some place,
+/// and the next one, if any, has a reason: the definition of a run is nowhere without a value.
+pub fn runs_have_an_end()
+    ensures { RunsHaveAnEnd }
+{
+    atomics_have_an_answer();
+    loads_have_an_answer();
+    meaning_is_well_formed();
+    least_choice_goes_on();
+    least_choice_is_least();
+    earlier_moments_decide();
+    actions_go_on();
 }

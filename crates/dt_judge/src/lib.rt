@@ -14,4 +14,6 @@ mod tests;
 
 pub use dt_hart::Hart;
 pub use judging::{Judged, judge};
-pub use laws::{earlier_moments_decide, records_have_one_finding, runs_have_one_end};
+pub use laws::{
+    earlier_moments_decide, records_have_one_finding, runs_have_an_end, runs_have_one_end,
+};

@@ -3,15 +3,16 @@ ghost use Rattle.dt_alu.specs.Extend.{IsAccessWidth};
 ghost use Rattle.dt_record.specs.declared.records.Body.TheVariants as body;
 ghost use Rattle.dt_record.specs.Actions.{Action};
 ghost use Rattle.dt_record.specs.Lawful.{is_in_ram, is_instruction};
-ghost use Rattle.dt_checks.specs.Retiring.{AccessesAligned, due_tag};
+ghost use Rattle.dt_checks.specs.Retiring.{due_tag};
 ghost use Rattle.dt_hart.specs.Taking.{is_placed_at};
 ghost use Rattle.dt_reference.specs.HartActions.{body_action};
 ghost use Rattle.dt_reference.specs.Run.{CanRetire};
 ghost use Rattle.dt_sources.specs.Finding.{is_load_place};
+ghost use Rattle.dt_step.specs.Alignment.{AccessesAligned};
 ghost use Rattle.dt_judge.specs.Kinds.{IsLoadFinding, LoadsBy, LoadsRam, ReadsRam, device_finding};
 ghost use Rattle.dt_judge.specs.Keeping.{HasReading, IsPlacedBy, IsReadBy, IsReadIn, Remembers, grounds_kept};
 
-use crate::kinds::{PLAIN, with_p};
+use crate::kinds::{of_another_kind, with_p};
 use crate::spans::{accessed, started};
 use dt_checks::Started;
 use dt_hart::Hart;
@@ -55,8 +56,8 @@ fn sourced(
 ) -> Result<Passed, Misfit>
     requires early { ask.at ≤ ask.key.stamp }
     requires place { IsTrue (is_load_place ask) }
-    ensures finds { (last : ℕ) (actions : List Action) (moments : ℕ → ℕ) → Remembers h.now m.now.writes ask.key actions moments → ReadsRam (grounds_kept h.now m.now last actions moments) p ask signed value result }
-    ensures read { IfOk result (λ x. (actions : List Action) (moments : ℕ → ℕ) → Remembers h.now m.now.writes ask.key actions moments → HasReading m.now.image m.now.writes actions moments ask x.sources) }
+    ensures finds { (last : ℕ) (actions : List Action) (moments : ℕ → ℕ) → Remembers h.now m.now ask.key actions moments → ReadsRam (grounds_kept h.now m.now last actions moments) p ask signed value result }
+    ensures read { IfOk result (λ x. (actions : List Action) (moments : ℕ → ℕ) → Remembers h.now m.now ask.key actions moments → HasReading m.now.image m.now.writes actions moments ask x.sources) }
 {
     with_p(p, ram_load(m, h.stores(), h.local(), ask, signed, value))
 }
@@ -72,8 +73,8 @@ fn from_ram(
 ) -> Result<Passed, Misfit>
     requires early { ask.at ≤ ask.key.stamp }
     requires place { IsTrue (is_load_place ask) }
-    ensures finds { (last : ℕ) (actions : List Action) (moments : ℕ → ℕ) → Remembers h.now m.now.writes ask.key actions moments → LoadsRam (grounds_kept h.now m.now last actions moments) p ask signed value result }
-    ensures read { IfOk result (λ x. (actions : List Action) (moments : ℕ → ℕ) → Remembers h.now m.now.writes ask.key actions moments → HasReading m.now.image m.now.writes actions moments ask x.sources) }
+    ensures finds { (last : ℕ) (actions : List Action) (moments : ℕ → ℕ) → Remembers h.now m.now ask.key actions moments → LoadsRam (grounds_kept h.now m.now last actions moments) p ask signed value result }
+    ensures read { IfOk result (λ x. (actions : List Action) (moments : ℕ → ℕ) → Remembers h.now m.now ask.key actions moments → HasReading m.now.image m.now.writes actions moments ask x.sources) }
 {
     order(h.stores(), h.floor(), ask.at)?;
     sourced(h, m, p, ask, signed, value)
@@ -94,9 +95,9 @@ fn loaded(
     requires aligned { AccessesAligned st.plan }
     requires due { due_tag st.plan ≡ 5 }
     requires early { at ≤ key.stamp }
-    ensures finds { (actions : List Action) (moments : ℕ → ℕ) → Remembers h.now m.now.writes key actions moments → LoadsBy (grounds_kept h.now m.now last actions moments) key st.stale st.plan value at paddr result }
+    ensures finds { (actions : List Action) (moments : ℕ → ℕ) → Remembers h.now m.now key actions moments → LoadsBy (grounds_kept h.now m.now last actions moments) key st.stale st.plan value at paddr result }
     ensures placed { OnOk result (IsPlacedBy st.plan paddr) }
-    ensures read { IfOk result (λ x. (actions : List Action) (moments : ℕ → ℕ) → Remembers h.now m.now.writes key actions moments → IsReadBy m.now.image m.now.writes actions moments st.plan key value at paddr x.sources) }
+    ensures read { IfOk result (λ x. (actions : List Action) (moments : ℕ → ℕ) → Remembers h.now m.now key actions moments → IsReadBy m.now.image m.now.writes actions moments st.plan key value at paddr x.sources) }
 {
     match st.plan {
         Planned::NeedsLoad {
@@ -114,7 +115,7 @@ fn loaded(
                 from_device(p, width, signed, value)
             }
         }
-        _ => Ok(PLAIN),
+        _ => of_another_kind(5),
     }
 }
 
@@ -130,10 +131,10 @@ pub fn load(
     requires within { last ≤ length m.now.writes }
     requires instruction { IsTrue (is_instruction retire.bits) }
     requires early { at ≤ key.stamp }
-    ensures finds { (actions : List Action) (moments : ℕ → ℕ) → Remembers h.now m.now.writes key actions moments → IsLoadFinding (grounds_kept h.now m.now last actions moments) key retire at paddr result }
+    ensures finds { (actions : List Action) (moments : ℕ → ℕ) → Remembers h.now m.now key actions moments → IsLoadFinding (grounds_kept h.now m.now last actions moments) key retire at paddr result }
     ensures can_retire { OnOk result (CanRetire h.now.arch retire.bits) }
     ensures placed { OnOk result (IsTrue (is_placed_at retire.bits paddr)) }
-    ensures read { IfOk result (λ x. (actions : List Action) (moments : ℕ → ℕ) → Remembers h.now m.now.writes key actions moments → IsReadIn m.now.image m.now.writes actions moments (body_action key (body.Load retire at paddr)) x.sources) }
+    ensures read { IfOk result (λ x. (actions : List Action) (moments : ℕ → ℕ) → Remembers h.now m.now key actions moments → IsReadIn m.now.image m.now.writes actions moments (body_action key (body.Load retire at paddr)) x.sources) }
 {
     let st = started(h, m, last, retire.pc, retire.bits, 5)?;
     loaded(h, m, last, key, st, retire.value, at, paddr)

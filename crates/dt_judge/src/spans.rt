@@ -1,14 +1,15 @@
 ghost use Rattle.std.specs.Prelude.{◌≡◌, ◌≤◌, length, IsTrue, OnOk, IfOk};
+ghost use Rattle.dt_access.specs.Translating.{walk_args};
 ghost use Rattle.dt_checks.specs.Addresses.{IsPlaceOf, address_check};
 ghost use Rattle.dt_checks.specs.Retiring.{IsRetired};
 ghost use Rattle.dt_checks.specs.Starting.{start_check};
-ghost use Rattle.dt_checks.specs.Translating.{walk_args};
 ghost use Rattle.dt_record.specs.Lawful.{is_instruction};
 ghost use Rattle.dt_windows.specs.Fences.{first_since};
 ghost use Rattle.dt_judge.specs.Keeping.{fetch_kept, trap_kept, window_kept};
 ghost use Rattle.dt_judge.specs.Kinds.{seen_by};
 
-use dt_checks::{FetchSpans, Started, address, start, walk_args};
+use dt_access::walk_args;
+use dt_checks::{FetchSpans, Started, address, start};
 use dt_hart::Hart;
 use dt_record::Key;
 use dt_rules::Misfit;

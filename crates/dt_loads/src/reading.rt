@@ -4,17 +4,18 @@ ghost use Rattle.dt_record.specs.Actions.{Action};
 ghost use Rattle.dt_record.specs.LoadSources.{found_byte, found_value};
 ghost use Rattle.dt_stores.specs.Standing.{StandsFor};
 ghost use Rattle.dt_sources.specs.Finding.{is_load_place};
-ghost use Rattle.dt_sources.specs.Knowing.{Knows, AreJudged};
 ghost use Rattle.dt_rules.specs.Checks.{misfit};
 ghost use Rattle.dt_record.specs.declared.reasons.Reason.TheVariants.{LoadSource};
 ghost use Rattle.dt_loads.specs.Newer.{HasNewerByte, is_newer_than};
-ghost use Rattle.dt_loads.specs.Reading.{ask_of, load_letters, expected_load, IsLoadAnswer};
+ghost use Rattle.dt_loads.specs.Reading.{ask_of, load_letters, expected_load, IsAnswered};
 
 use dt_alu::extend;
 use dt_local::Local;
 use dt_record::{Key, Letters, LoadAsk, Origin, Sources};
 use dt_rules::{Misfit, NO_LETTERS, Reason};
-use dt_sources::{Found, find, known_fit_is_fit};
+use dt_sources::{
+    Found, find, known_fit_is_fit, least_choice_goes_on, least_choice_is_least, refusal_is_exact,
+};
 use dt_stores::Stores;
 use dt_versions::Moments;
 
@@ -54,12 +55,15 @@ pub fn ram_load(
 ) -> Result<Passed, Misfit>
     requires early { ask.at ≤ ask.key.stamp }
     requires place { IsTrue (is_load_place ask) }
-    ensures { (actions : List Action) (moments : ℕ → ℕ) → StandsFor s.now actions → Knows l.now m.now.writes actions moments ask.key → AreJudged m.now.writes actions ask.key → IsLoadAnswer m.now.image m.now.writes actions moments ask signed value result }
+    ensures { IsAnswered m.now s.now l.now ask signed value result }
 {
     if extend(ask.width, signed, ask.raw) != value {
         return Err(refusal(m, s, ask, signed, value));
     }
     known_fit_is_fit();
+    least_choice_goes_on();
+    least_choice_is_least();
+    refusal_is_exact();
     match find(m, s, l, ask) {
         Found::At { sources, .. } => Ok(allowed(l, ask, sources)),
         Found::Nowhere => Err(refusal(m, s, ask, signed, value)),

@@ -75,7 +75,7 @@ judged_next held wide hart records i old new law can within its passed on =
     let all : AreOwn (writes_of records) hart (before ++ r ∷ more) = subst (AreOwn (writes_of records) hart) (own_from hart records i any_record within its) (law records hart can.file) in
     let own : AreOwn (writes_of records) old.hart.arch.hart (before ++ r ∷ more) = subst (λ h. AreOwn (writes_of records) h (before ++ r ∷ more)) (sym passed.number) all in
     let until : HoldsUntil held.writes r.stamp (writes_of records) = record { later = []; are = sym can.writes ∙ sym (append-nil held.writes); after = refl } in
-    subst (Runs new held.image (writes_of records) wide) (sym (before_more hart records i any_record within its)) (on (writes_of records) wide before more own until passed.runs)
+    subst (Runs new held.image (writes_of records) wide) (sym (before_more hart records i any_record within its)) (on (writes_of records) wide [] before more own until passed.runs)
 
 -- a record of another hart
 pub passed_by : (held : History) (wide : Bool) (hart : ℕ) (records : List Record) (i : ℕ) (v : RunView) → i < length records → ((get_or records i any_record).hart == hart) ≡ false

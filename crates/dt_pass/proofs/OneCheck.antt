@@ -6,6 +6,7 @@ use Rattle.std.proofs.lemmas.List.Elements.{All-head, All-tail}
 use Rattle.dt_record.specs.declared.records.Record.{Record}
 use Rattle.dt_record.specs.Keys.{records_of}
 use Rattle.dt_record.specs.Writes.{writes_of}
+use Rattle.dt_writes.specs.Laws.{WritesStandInOrder}
 use Rattle.dt_rules.specs.declared.misfits.Misfit.{Misfit}
 use Rattle.dt_loads.specs.declared.reading.Passed.{Passed}
 use Rattle.dt_judge.specs.Laws.{RunsHaveOneEnd}
@@ -24,28 +25,28 @@ abbrev run_made : ℕ → List Passed → Option Misfit → HartRun
 run_made hart allowed refused = record { hart = hart; allowed = allowed; refused = refused }
 
 -- a hart has one run
-same_run : RunsHaveOneEnd → (image : List ℕ) (wide : Bool) (records : List Record) (one other : HartRun) → one.hart ≡ other.hart
+same_run : RunsHaveOneEnd → WritesStandInOrder → (image : List ℕ) (wide : Bool) (records : List Record) (one other : HartRun) → one.hart ≡ other.hart
     → IsRun image wide records one → IsRun image wide records other → one ≡ other
-same_run law image wide records one other numbers is also =
+same_run law ordered image wide records one other numbers is also =
     let there : RunsTo image (writes_of records) wide one.hart (records_of one.hart records) other.allowed other.refused
     = subst (λ hart. RunsTo image (writes_of records) wide hart (records_of hart records) other.allowed other.refused) (sym numbers) also in
-    let end = law image (writes_of records) wide one.hart (records_of one.hart records) one.allowed other.allowed one.refused other.refused is there in
+    let end = law image (writes_of records) wide one.hart (records_of one.hart records) one.allowed other.allowed one.refused other.refused (ordered records) is there in
     ap (λ hart. run_made hart one.allowed one.refused) numbers
     ∙ ap (λ allowed. run_made other.hart allowed one.refused) end.0
     ∙ ap (λ refused. run_made other.hart other.allowed refused) end.1
 
 -- so the harts have one list of runs
-same_runs : RunsHaveOneEnd → (image : List ℕ) (wide : Bool) (records : List Record) (runs others : List HartRun)
+same_runs : RunsHaveOneEnd → WritesStandInOrder → (image : List ℕ) (wide : Bool) (records : List Record) (runs others : List HartRun)
     → map (λ (run : HartRun). run.hart) runs ≡ map (λ (run : HartRun). run.hart) others
     → All (IsRun image wide records) runs → All (IsRun image wide records) others → runs ≡ others
-same_runs law image wide records [] [] numbers are also = refl
-same_runs law image wide records [] (other ∷ others) numbers are also = absurd (cc)
-same_runs law image wide records (run ∷ runs) [] numbers are also = absurd (cc)
-same_runs law image wide records (run ∷ runs) (other ∷ others) numbers are also =
+same_runs law ordered image wide records [] [] numbers are also = refl
+same_runs law ordered image wide records [] (other ∷ others) numbers are also = absurd (cc)
+same_runs law ordered image wide records (run ∷ runs) [] numbers are also = absurd (cc)
+same_runs law ordered image wide records (run ∷ runs) (other ∷ others) numbers are also =
     let number : HartRun → ℕ = λ run. run.hart in
     let all : run.hart ∷ map number runs ≡ other.hart ∷ map number others = numbers in
-    let first : run ≡ other = same_run law image wide records run other (cc) (All-head (IsRun image wide records) run runs are) (All-head (IsRun image wide records) other others also) in
-    let rest : runs ≡ others = same_runs law image wide records runs others (cc) (All-tail (IsRun image wide records) run runs are) (All-tail (IsRun image wide records) other others also) in
+    let first : run ≡ other = same_run law ordered image wide records run other (cc) (All-head (IsRun image wide records) run runs are) (All-head (IsRun image wide records) other others also) in
+    let rest : runs ≡ others = same_runs law ordered image wide records runs others (cc) (All-tail (IsRun image wide records) run runs are) (All-tail (IsRun image wide records) other others also) in
     ap (λ r. r ∷ runs) first ∙ ap (λ rs. other ∷ rs) rest
 
 abbrev checked_made : Verdict → ℕ → List Counts → List Noted → Checked
@@ -59,10 +60,10 @@ same_checked one other verdict harts counts notes =
     ∙ ap (λ cs. checked_made other.verdict other.harts cs one.tallies.notes) counts
     ∙ ap (λ ns. checked_made other.verdict other.harts other.tallies.harts ns) notes
 
-pub a_file_has_one_check : RunsHaveOneEnd → AFileHasOneCheck
-a_file_has_one_check law image wide harts records one other is also =
+pub a_file_has_one_check : RunsHaveOneEnd → WritesStandInOrder → AFileHasOneCheck
+a_file_has_one_check law ordered image wide harts records one other is also =
     let runs : is.runs ≡ also.runs
-    = same_runs law image wide records is.runs also.runs (is.are_runs.harts_are ∙ sym also.are_runs.harts_are) is.are_runs.each also.are_runs.each in
+    = same_runs law ordered image wide records is.runs also.runs (is.are_runs.harts_are ∙ sym also.are_runs.harts_are) is.are_runs.each also.are_runs.each in
     let verdict : one.verdict ≡ other.verdict = is.verdict ∙ ap (λ rs. verdict_of (map (outcome_of records) rs)) runs ∙ sym also.verdict in
     same_checked one other verdict (is.harts_are ∙ sym also.harts_are)
     (is.counts ∙ ap (λ v. map (λ hart. counts_of (limit_of v) (records_of hart records)) (range_with_len 0 harts)) verdict ∙ sym also.counts)

@@ -2,6 +2,7 @@
 ghost use Rattle.dt_pass.specs.Laws.{AFileHasOneCheck, FailIsFirst, PassIsAllAllowed};
 
 use dt_judge::runs_have_one_end;
+use dt_writes::writes_stand_in_order;
 
 /// Where the verdict is Pass, each record of each hart is allowed.
 pub fn pass_is_all_allowed()
@@ -19,4 +20,5 @@ pub fn a_file_has_one_check()
     ensures { AFileHasOneCheck }
 {
     runs_have_one_end();
+    writes_stand_in_order();
 }

@@ -7,10 +7,10 @@ use Rattle.std.proofs.lemmas.List.{length-append, length-drop}
 use Rattle.dt_record.specs.Spelling.{half, word, flag}
 use Rattle.dt_record.specs.Spelling as spelling
 use Rattle.dt_record.specs.ProbeFile.{header_bytes}
-use Rattle.dt_probe_file.specs.declared.reading.Version.{Version}
-use Rattle.dt_probe_file.specs.declared.reading.Version.TheVariants.{One, Two}
+use Rattle.dt_record.specs.declared.spellings.Version.{Version}
+use Rattle.dt_record.specs.declared.spellings.Version.TheVariants.{One, Two}
 use Rattle.dt_probe_file.specs.declared.headers.Heading.TheVariants.{Whole, Begun, Wrong}
-use Rattle.dt_probe_file.specs.Fronts.{version_of}
+use Rattle.dt_record.specs.Versions.{version_of}
 use Rattle.dt_probe_file.specs.Headers.{IsHeading, header_byte, field_start, plain_header}
 use Rattle.dt_probe_file.proofs.HeaderFields.{AreRight, IsHeader, fault_at, no_fault, header_of, get_or_behind}
 

@@ -9,11 +9,12 @@ use Rattle.dt_record.specs.Spelling.{Version, end_bytes}
 use Rattle.dt_record.specs.ProbeFile.{IsNext, header_bytes}
 use Rattle.dt_record.specs.Answers.{Reading, opened, header_fault, after_record, spelled_next, GoesOn, HasRoom, IsBroken, IsTooMany}
 use Rattle.dt_record.specs.Streams.{TakesHeader, TakesRecord}
-use Rattle.dt_probe_file.specs.declared.reading.Version.{Version as Form}
+use Rattle.dt_record.specs.declared.spellings.Version.{Version as Form}
 use Rattle.dt_probe_file.specs.declared.reading.Opened.{Opened}
 use Rattle.dt_probe_file.specs.declared.fronts.Front.TheVariants as fronts
 use Rattle.dt_probe_file.specs.declared.headers.Heading.TheVariants as headings
-use Rattle.dt_probe_file.specs.Fronts.{version_of, reading_of, first_too_many, IsFront}
+use Rattle.dt_record.specs.Versions.{version_of}
+use Rattle.dt_probe_file.specs.Fronts.{reading_of, first_too_many, IsFront}
 use Rattle.dt_probe_file.specs.Headers.{IsHeading}
 use Rattle.dt_probe_file.specs.Parts.{whole}
 use Rattle.dt_probe_file.specs.Progress.{ended_by, progress_of}

@@ -3,7 +3,8 @@ use Rattle.std.specs.Prelude.{ℕ, ◌≡◌, ◌⊎◌, Option, None, Some, Lis
 use Rattle.dt_source.specs.Known.{TakesFrom}
 use Rattle.dt_record.specs.Spelling.{end_bytes}
 use Rattle.dt_probe_file.specs.declared.reading.Opened.{Opened}
-use Rattle.dt_probe_file.specs.Fronts.{IsBegun, version_of}
+use Rattle.dt_record.specs.Versions.{version_of}
+use Rattle.dt_probe_file.specs.Fronts.{IsBegun}
 use Rattle.dt_probe_file.specs.Headers.{IsCutHeader}
 
 -- The bytes behind the last answer leave the next one open. Before the header they are the beginning of

@@ -5,23 +5,18 @@ use Rattle.dt_record.specs.declared.writes.What.TheVariants.{Records, Writes}
 use Rattle.dt_record.specs.Lawful.{FitsRecord, IsLawful}
 use Rattle.dt_record.specs.Spelling.{record_bytes, end_bytes}
 use Rattle.dt_record.specs.Spelling as spelling
+use Rattle.dt_record.specs.Versions.{version_of}
 use Rattle.dt_record.specs.Answers.{Reading, spelled_next, GoesOn, IsBroken}
 use Rattle.dt_record_bytes.specs.declared.decoded.Decoded.{Decoded}
 use Rattle.dt_record_bytes.specs.declared.decoded.Decoded.TheVariants.{Got, Short, Bad}
 use Rattle.dt_record_bytes.specs.WideAnswer.{IsCut}
 use Rattle.dt_short_bytes.specs.ShortForms.{IsUnfinished}
-use Rattle.dt_probe_file.specs.declared.reading.Version.{Version}
-use Rattle.dt_probe_file.specs.declared.reading.Version.TheVariants.{One, Two}
 use Rattle.dt_probe_file.specs.declared.reading.Opened.{Opened}
 use Rattle.dt_probe_file.specs.declared.fronts.Front.{Front}
 use Rattle.dt_probe_file.specs.declared.fronts.Front.TheVariants.{Event, End, Begun, Wrong}
 
 -- What stands at the front of bytes behind a header or a record, as far as they are there (this
 -- project's own).
-
-abbrev pub version_of : Version → spelling.Version
-version_of One = spelling.One
-version_of Two = spelling.Two
 
 -- what the reader keeps of a file stands for this reading of it
 abbrev pub reading_of : Opened → Reading

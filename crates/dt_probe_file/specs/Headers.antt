@@ -3,7 +3,7 @@ use Rattle.dt_record.specs.ProbeFile.{header_bytes}
 use Rattle.dt_record.specs.Answers.{starts_with_any, header_fault}
 use Rattle.dt_probe_file.specs.declared.headers.Heading.{Heading}
 use Rattle.dt_probe_file.specs.declared.headers.Heading.TheVariants.{Whole, Begun, Wrong}
-use Rattle.dt_probe_file.specs.Fronts.{version_of}
+use Rattle.dt_record.specs.Versions.{version_of}
 
 -- Headers, as far as they are there (this project's own).
 

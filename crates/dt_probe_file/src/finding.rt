@@ -8,8 +8,8 @@ ghost use Rattle.dt_probe_file.specs.Parts.{ReadsOn, whole};
 use crate::fronts::{Front, front_of};
 use crate::headers::{Heading, heading_of};
 use crate::holding::Held;
-use crate::reading::{Opened, Version};
-use dt_record::Record;
+use crate::reading::Opened;
+use dt_record::{Record, Version};
 use dt_source::{Failed, Source};
 
 /// What reading on to a whole header came to.

@@ -1,10 +1,11 @@
 ghost use Rattle.std.specs.Prelude.{◌≡◌, ◌≢◌, ◌<◌, ◌≤◌, ℕ, IsTrue, ◌↔◌, ◌^◌, length, take, drop, slice_index};
 ghost use Rattle.dt_record.specs.ProbeFile.{IsNext};
 ghost use Rattle.dt_record.specs.Spelling.{double, end_bytes, record_bytes};
-ghost use Rattle.dt_probe_file.specs.Fronts.{IsSound, IsFront, IsDecoded, HasTag, IsEndFront, reading_of, version_of};
+ghost use Rattle.dt_record.specs.Versions.{version_of};
+ghost use Rattle.dt_probe_file.specs.Fronts.{IsSound, IsFront, IsDecoded, HasTag, IsEndFront, reading_of};
 
-use crate::reading::{Opened, Version};
-use dt_record::Record;
+use crate::reading::Opened;
+use dt_record::{Record, Version};
 use dt_record_bytes::{Decoded, decode};
 use dt_short_bytes::decode2;
 

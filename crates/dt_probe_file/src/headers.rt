@@ -1,7 +1,7 @@
 ghost use Rattle.std.specs.Prelude.{◌≡◌, ◌<◌, ◌≤◌, ℕ, IsTrue, false, length, slice_index};
 ghost use Rattle.dt_probe_file.specs.Headers.{IsHeading, header_byte, field_start};
 
-use crate::reading::Version;
+use dt_record::Version;
 
 /// How many bytes a header has.
 pub(crate) const HEADER_LEN: usize = 16;

@@ -101,6 +101,8 @@ impl<S: Source> Probes for FileProbes<S> {
 
     ghost faults = { λ p. S.faults p.source };
 
+    ghost had_to_read = { λ p q. HadToRead p.opened p.held (S.left p.source) (S.left q.source) };
+
     ghost lent = { λ p. S.lent p.source };
 
     fn is_over(&self) -> bool {

@@ -1,23 +1,10 @@
 ghost use Rattle.std.specs.Prelude.{◌≡◌, ◌<◌, ◌≤◌, ℕ, length, MatchOption};
 ghost use Rattle.dt_record.specs.ProbeFile.{IsNext};
-ghost use Rattle.dt_record.specs.Writes.{writes_memory};
 ghost use Rattle.dt_record.specs.Answers.{HasRoom, IsTooMany, after_record, opened, spelled_next};
-ghost use Rattle.dt_probe_file.specs.Fronts.{IsSound, reading_of, version_of, first_too_many};
+ghost use Rattle.dt_record.specs.Versions.{version_of};
+ghost use Rattle.dt_probe_file.specs.Fronts.{IsSound, reading_of, first_too_many};
 
-use dt_record::{Body, Record, What};
-
-/// How many records a file may have.
-const RECORD_LIMIT: u64 = 4_194_304;
-
-/// How many of them may write memory.
-const WRITE_LIMIT: u64 = 1_048_576;
-
-/// Which spelling a file's records have.
-#[derive(Clone, Copy, Debug, PartialEq, Eq)]
-pub(crate) enum Version {
-    One,
-    Two,
-}
+use dt_record::{RECORD_LIMIT, Record, Version, WRITE_LIMIT, What, writes_memory};
 
 /// What was read of a file whose header has come.
 #[derive(Clone, Copy, Debug)]
@@ -55,27 +42,16 @@ pub(crate) fn open(version: Version, harts: u8, wide: bool) -> Opened
     }
 }
 
-/// Whether the record writes memory.
-fn is_write(event: &Record) -> bool
-    ensures { result ≡ writes_memory event.now }
-{
-    match event.body {
-        Body::Drain { .. } => true,
-        Body::Atomic { wrote, .. } => wrote,
-        _ => false,
-    }
-}
-
 /// What there is too much of with one more record.
 pub(crate) fn too_many(opened: &Opened, event: &Record) -> Option<What>
     requires { IsSound opened.now }
     ensures { MatchOption result (HasRoom (reading_of opened.now) event.now)
         (λ what. IsTooMany (reading_of opened.now) event.now what (first_too_many what)) }
 {
-    if opened.events >= RECORD_LIMIT {
+    if opened.events >= u64::from(RECORD_LIMIT) {
         return Some(What::Records);
     }
-    if opened.writes >= WRITE_LIMIT && is_write(event) {
+    if opened.writes >= u64::from(WRITE_LIMIT) && writes_memory(event) {
         return Some(What::Writes);
     }
     None
@@ -86,8 +62,8 @@ pub(crate) fn limit_number(what: What) -> u64
     ensures { result ≡ first_too_many what }
 {
     match what {
-        What::Records => RECORD_LIMIT + 1,
-        What::Writes => WRITE_LIMIT + 1,
+        What::Records => u64::from(RECORD_LIMIT) + 1,
+        What::Writes => u64::from(WRITE_LIMIT) + 1,
     }
 }
 
@@ -106,7 +82,7 @@ pub(crate) fn advanced(opened: &Opened, event: &Record, len: usize) -> Opened
     let mut next = *opened;
     next.last[usize::from(event.hart)] = event.stamp;
     next.events += 1;
-    next.writes += u64::from(is_write(event));
+    next.writes += u64::from(writes_memory(event));
     next.at += len as u64;
     next
 }

@@ -1,4 +1,5 @@
 pub mod Chains
 pub mod Passing
 mod Placed
+mod Waiting
 mod Words

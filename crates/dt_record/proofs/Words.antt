@@ -2,7 +2,7 @@
 use Rattle.std.proofs.Common.{◌≡◌, ℕ, zero, suc, ◌+◌, ◌*◌, ◌<◌, List, length, get_or, take, drop, refl, ap, ◌∙◌, arith}
 use Rattle.std.proofs.lemmas.List.{drop-drop}
 use Rattle.std.specs.Int.{from_le_bytes, w64}
-use Rattle.dt_record.specs.Lent.{double_in, front_words}
+use Rattle.dt_record.specs.LentBodies.{double_in, front_words}
 
 pub front_words-length : (n : ℕ) (bytes : List ℕ) → length (front_words n bytes) ≡ n
 front_words-length zero bytes = refl

@@ -1,4 +1,4 @@
-use Rattle.std.specs.Prelude.{ℕ, ◌+◌, ◌-◌, ◌==◌, ◌&&◌, Bool, true, if◌then◌else◌, Option, None, Some, List, [], ◌∷◌, ◌++◌, length, filter, reverse, find, max, nat_lt, nat_le, is_none}
+use Rattle.std.specs.Prelude.{ℕ, ◌≡◌, ◌≤◌, ◌+◌, ◌-◌, ◌==◌, ◌&&◌, Bool, true, if◌then◌else◌, Option, None, Some, List, [], ◌∷◌, ◌++◌, length, filter, reverse, find, max, nat_lt, nat_le, is_none}
 use Rattle.std.specs.Option.{option_map_or}
 use Rattle.dt_record.specs.declared.keys.Key.{Key}
 use Rattle.dt_record.specs.declared.accesses.OwnStore.{OwnStore}
@@ -75,6 +75,16 @@ undrained at actions = filter (is_undrained at) (held_of actions)
 -- no drain has taken the store
 abbrev pub is_waiting : Held → Bool
 is_waiting h = is_none h.drained
+
+-- each drain has a stamp of at most this cycle
+abbrev pub AreDrainsBy : ℕ → List Action → Type 0
+AreDrainsBy at [] = Unit {0}
+AreDrainsBy at (Drained key line count ∷ rest) = (key.stamp ≤ at) × AreDrainsBy at rest
+AreDrainsBy at (_ ∷ rest) = AreDrainsBy at rest
+
+-- in a cycle that no drain is after, the undrained stores are those that wait
+abbrev pub UndrainedWait : Type 0
+UndrainedWait = (at : ℕ) (actions : List Action) → AreDrainsBy at actions → undrained at actions ≡ filter is_waiting (held_of actions)
 
 -- the youngest store that is undrained in a cycle and covers a byte
 abbrev pub forwarded : ℕ → List Action → ℕ → Option Held

@@ -8,12 +8,14 @@ pub mod Keys
 pub mod Kinds
 pub mod Lawful
 pub mod Lent
+pub mod LentBodies
 pub mod Letters
 pub mod LoadSources
 pub mod Marks
 pub mod Memory
 pub mod ProbeFile
 pub mod Reasons
+pub mod RecordParts
 pub mod Spelling
 pub mod Streams
 pub mod Tags

@@ -1,30 +1,40 @@
 ghost use Rattle.std.specs.Prelude.{◌≡◌};
+ghost use Rattle.dt_record.specs.Lent.{record_of};
+ghost use Rattle.dt_record.specs.LentBodies.{body_of};
 ghost use Rattle.dt_record.specs.Lawful.{is_lawful, is_masked, is_byte_masked, is_instruction, are_trap_bits, is_trap_cause, is_atomic_place, is_atomic_value, is_mode, Bound, body_bounds};
 ghost use Rattle.std.specs.List.{list_all};
 
+use crate::lent::{BodyAt, RecordAt};
 use crate::limits::HART_LIMIT;
 use crate::places::{is_in_ram, is_ram_line};
-use crate::records::{Body, Record};
+use crate::records::Record;
 
 /// Whether the record keeps the bounds of its fields.
 pub fn lawful(event: &Record) -> bool
     ensures { result ≡ is_lawful event.now }
 {
+    lawful_at(&event.lent())
+}
+
+/// The same of a record whose long fields are lent.
+pub fn lawful_at(event: &RecordAt<'_>) -> bool
+    ensures { result ≡ is_lawful (record_of event.now) }
+{
     event.hart < HART_LIMIT && is_body_lawful(event.stamp, &event.body)
 }
 
-fn is_body_lawful(stamp: u64, body: &Body) -> bool
-    ensures { result ≡ list_all (λ (b : Bound). b.holds) (body_bounds stamp body.now) }
+fn is_body_lawful(stamp: u64, body: &BodyAt<'_>) -> bool
+    ensures { result ≡ list_all (λ (b : Bound). b.holds) (body_bounds stamp (body_of body.now)) }
 {
     match body {
-        Body::Commit { retire } => is_one_instruction(retire.bits),
-        Body::Trap { bits, cause, .. } => fits_fault(*bits, *cause)
+        BodyAt::Commit { retire } => is_one_instruction(retire.bits),
+        BodyAt::Trap { bits, cause, .. } => fits_fault(*bits, *cause)
             && fits_interrupt(*bits, *cause),
-        Body::Regs { .. } => true,
-        Body::Csrs { mode, .. } => is_known_mode(*mode),
-        Body::Load { retire, at, .. } => is_one_instruction(retire.bits) && *at <= stamp,
-        Body::Store { bits, .. } => is_one_instruction(*bits),
-        Body::Atomic {
+        BodyAt::Regs { .. } => true,
+        BodyAt::Csrs { mode, .. } => is_known_mode(*mode),
+        BodyAt::Load { retire, at, .. } => is_one_instruction(retire.bits) && *at <= stamp,
+        BodyAt::Store { bits, .. } => is_one_instruction(*bits),
+        BodyAt::Atomic {
             retire,
             paddr,
             width,
@@ -35,14 +45,14 @@ fn is_body_lawful(stamp: u64, body: &Body) -> bool
                 && fits_place(*paddr, *width)
                 && fits_value(*width, *wrote, *new)
         }
-        Body::Drain {
+        BodyAt::Drain {
             line,
             mask,
             count,
             bytes,
         } => is_ram_line(*line) && *mask != 0 && *count != 0 && is_clear_outside(*mask, bytes),
-        Body::Refill { line, .. } => is_ram_line(*line),
-        Body::Beat => true,
+        BodyAt::Refill { line, .. } => is_ram_line(*line),
+        BodyAt::Beat => true,
     }
 }
 

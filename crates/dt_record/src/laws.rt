@@ -1,3 +1,4 @@
+ghost use Rattle.dt_record.specs.Actions.{UndrainedWait};
 ghost use Rattle.dt_record.specs.Filling.{AnswersGoOn, RecordsAreCounted, TakenAnswersGoOn, TakenRecordsWereLeft};
 ghost use Rattle.dt_record.specs.Marks.{JudgedIsPassed, PassedGoesOn};
 
@@ -22,4 +23,9 @@ pub fn answers_go_on()
 pub fn records_are_counted()
     ensures counted { RecordsAreCounted }
     ensures left { TakenRecordsWereLeft }
+{}
+
+/// In a cycle that no drain is after, the undrained stores are those that wait.
+pub fn undrained_wait()
+    ensures { UndrainedWait }
 {}

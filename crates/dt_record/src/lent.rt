@@ -1,6 +1,6 @@
 //! A record whose long fields are lent: small, and copied without its bytes.
-ghost use Rattle.std.specs.Prelude.{◌≡◌, ◌<◌, ◌+◌, ◌*◌, ◌≤◌, length, slice_index};
-ghost use Rattle.dt_record.specs.Lent.{double_in, record_of, words_in, words_of};
+ghost use Rattle.std.specs.Prelude.{◌≡◌, ◌<◌, ◌+◌, ◌*◌, ◌≤◌, IsTrue, length, slice_index};
+ghost use Rattle.dt_record.specs.LentBodies.{body_of, double_in, is_whole, words_in, words_of};
 
 use crate::records::{Body, Record, Retire};
 
@@ -62,12 +62,14 @@ pub enum BodyAt<'a> {
     Beat,
 }
 
-/// A record where it stands: a contract sees it as the record that `record_of` says.
+/// A record where it stands: a contract sees it as the record that `record_of` says. Its long fields
+/// have their lengths.
 #[derive(Clone, Copy, Debug)]
 pub struct RecordAt<'a> {
     pub stamp: u64,
     pub hart: u8,
     pub body: BodyAt<'a>,
+    pub ghost whole: { IsTrue (is_whole body) },
 }
 
 /// The number in the eight bytes from a place on.
@@ -111,12 +113,13 @@ impl WordsAt<'_> {
     }
 }
 
-impl Record {
-    /// The same record, with its long fields lent.
-    pub fn lent(&self) -> RecordAt<'_>
-        ensures { record_of result ≡ self.now }
+impl Body {
+    /// The same body, with its long fields lent.
+    pub fn lent(&self) -> BodyAt<'_>
+        ensures same { body_of result ≡ self.now }
+        ensures whole { IsTrue (is_whole result) }
     {
-        let body = match &self.body {
+        match self {
             Body::Commit { retire } => BodyAt::Commit { retire: *retire },
             Body::Trap {
                 pc,
@@ -179,11 +182,128 @@ impl Record {
             },
             Body::Refill { line, bytes } => BodyAt::Refill { line: *line, bytes },
             Body::Beat => BodyAt::Beat,
-        };
+        }
+    }
+}
+
+impl Record {
+    ghost use Rattle.dt_record.specs.Lent.{record_of};
+
+    /// The same record, with its long fields lent.
+    pub fn lent(&self) -> RecordAt<'_>
+        ensures { record_of result ≡ self.now }
+    {
         RecordAt {
             stamp: self.stamp,
             hart: self.hart,
-            body,
+            body: self.body.lent(),
+        }
+    }
+}
+
+/// The numbers, one after another.
+fn put_words(words: &WordsAt<'_>, numbers: &mut [u64])
+    requires { length numbers.old ≡ length (words_of words.now) }
+    ensures { numbers.new ≡ words_of words.now }
+{
+    for place in 0..numbers.len() {
+        numbers[place] = words.word(place);
+    }
+}
+
+/// The bytes of a whole line.
+pub(crate) fn line_of(bytes: &[u8]) -> [u8; 64]
+    requires { length bytes.now ≡ 64 }
+    ensures { result ≡ bytes.now }
+{
+    let mut line = [0; 64];
+    line.copy_from_slice(bytes);
+    line
+}
+
+/// The body that one with lent fields stands for.
+fn whole_body(body: &BodyAt<'_>) -> Body
+    requires { IsTrue (is_whole body.now) }
+    ensures { result ≡ body_of body.now }
+{
+    match *body {
+        BodyAt::Commit { retire } => Body::Commit { retire },
+        BodyAt::Trap {
+            pc,
+            bits,
+            cause,
+            tval,
+        } => Body::Trap {
+            pc,
+            bits,
+            cause,
+            tval,
+        },
+        BodyAt::Regs { pc, x } => {
+            let mut numbers = [0; 31];
+            put_words(&x, &mut numbers);
+            Body::Regs { pc, x: numbers }
+        }
+        BodyAt::Csrs { mode, v } => {
+            let mut numbers = [0; 17];
+            put_words(&v, &mut numbers);
+            Body::Csrs { mode, v: numbers }
+        }
+        BodyAt::Load { retire, at, paddr } => Body::Load { retire, at, paddr },
+        BodyAt::Store {
+            pc,
+            bits,
+            paddr,
+            value,
+        } => Body::Store {
+            pc,
+            bits,
+            paddr,
+            value,
+        },
+        BodyAt::Atomic {
+            retire,
+            paddr,
+            width,
+            wrote,
+            new,
+        } => Body::Atomic {
+            retire,
+            paddr,
+            width,
+            wrote,
+            new,
+        },
+        BodyAt::Drain {
+            line,
+            mask,
+            count,
+            bytes,
+        } => Body::Drain {
+            line,
+            mask,
+            count,
+            bytes: line_of(bytes),
+        },
+        BodyAt::Refill { line, bytes } => Body::Refill {
+            line,
+            bytes: line_of(bytes),
+        },
+        BodyAt::Beat => Body::Beat,
+    }
+}
+
+impl RecordAt<'_> {
+    ghost use Rattle.dt_record.specs.Lent.{record_of};
+
+    /// The record that it stands for.
+    pub fn record(&self) -> Record
+        ensures { result ≡ record_of self.now }
+    {
+        Record {
+            stamp: self.stamp,
+            hart: self.hart,
+            body: whole_body(&self.body),
         }
     }
 }

@@ -9,6 +9,7 @@ mod keys;
 mod kinds;
 mod lawfulness;
 mod laws;
+mod lending;
 mod lent;
 mod limits;
 mod origins;
@@ -29,8 +30,10 @@ pub use blocks::Block;
 pub use images::Image;
 pub use keys::{Key, key_of};
 pub use kinds::{Kind, kind_of};
-pub use lawfulness::lawful;
-pub use laws::{answers_go_on, judged_is_passed, passed_goes_on, records_are_counted};
+pub use lawfulness::{lawful, lawful_at};
+pub use laws::{
+    answers_go_on, judged_is_passed, passed_goes_on, records_are_counted, undrained_wait,
+};
 pub use lent::{BodyAt, RecordAt, WordsAt};
 pub use limits::{
     HART_LIMIT, IMAGE_LIMIT, LINE_SIZE, RAM_END, RAM_START, RECORD_LIMIT, WRITE_LIMIT,
@@ -38,10 +41,10 @@ pub use limits::{
 pub use origins::{Letters, Origin, Sources};
 pub use places::{is_in_ram, is_ram_line};
 pub use reasons::Reason;
-pub use record_lists::Records;
-pub use records::{Body, Record, Retire, tag_of};
+pub use record_lists::{Records, RecordsAt};
+pub use records::{Body, Record, Retire, tag_at, tag_of};
 pub use spellings::Version;
 pub use states::{HartState, Known, KnownByte, PageMark, Pages};
 pub use steps::Steps;
 pub use streams::{Next, Probes, Stop};
-pub use writes::{Note, What, Write, write_of, writes_memory};
+pub use writes::{Note, What, Write, write_of, write_of_at, writes_memory};

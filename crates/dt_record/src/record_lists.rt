@@ -1,5 +1,5 @@
 //! Records that are kept for long.
-ghost use Rattle.std.specs.Prelude.{◌≡◌, ◌<◌, ◌++◌, ◌∷◌, [], Some, OnOk, OnErr, length, slice_get};
+ghost use Rattle.std.specs.Prelude.{◌≡◌, ◌<◌, ◌≤◌, ◌++◌, ◌∷◌, [], Some, OnOk, OnErr, length, slice_get};
 ghost use Rattle.dt_record.specs.Lent.{record_of};
 
 use crate::lent::RecordAt;
@@ -54,5 +54,52 @@ impl Records {
     {
         self.items.push(*event)?;
         Ok(())
+    }
+}
+
+/// Records as they stand among others: those from one number up to another. A contract sees their
+/// list by `part_of`.
+#[derive(Clone, Copy, Debug)]
+pub struct RecordsAt<'a> {
+    kept: &'a Records,
+    from: usize,
+    to: usize,
+    ghost order: { from ≤ to },
+    ghost within: { to ≤ length kept.now },
+}
+
+impl Records {
+    ghost use Rattle.dt_record.specs.RecordParts.{part, part_of};
+
+    /// Those from one number up to another.
+    pub fn part(&self, from: usize, to: usize) -> RecordsAt<'_>
+        requires order { from ≤ to }
+        requires within { to ≤ length self.now }
+        ensures { part_of result ≡ part from to self.now }
+    {
+        RecordsAt {
+            kept: self,
+            from,
+            to,
+        }
+    }
+}
+
+impl RecordsAt<'_> {
+    ghost use Rattle.dt_record.specs.RecordParts.{part_of};
+
+    /// How many records there are.
+    pub fn len(&self) -> usize
+        ensures { result ≡ length (part_of self.now) }
+    {
+        self.to - self.from
+    }
+
+    /// The record with this number, the first of which is 0.
+    pub fn get(&self, number: usize) -> RecordAt<'_>
+        requires { number < length (part_of self.now) }
+        ensures { slice_get (part_of self.now) number ≡ Some (record_of result) }
+    {
+        self.kept.get(self.from + number)
     }
 }

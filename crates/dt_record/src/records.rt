@@ -1,5 +1,8 @@
 ghost use Rattle.std.specs.Prelude.{◌≡◌};
+ghost use Rattle.dt_record.specs.LentBodies.{body_of};
 ghost use Rattle.dt_record.specs.Tags.{tag_number};
+
+use crate::lent::BodyAt;
 
 /// One event of one hart, as the design under test reports it. This project's own format.
 #[derive(Clone, Copy, Debug, PartialEq, Eq)]
@@ -91,16 +94,23 @@ pub enum Body {
 pub fn tag_of(body: &Body) -> u8
     ensures { result ≡ tag_number body.now }
 {
+    tag_at(&body.lent())
+}
+
+/// The same of a body whose long fields are lent.
+pub fn tag_at(body: &BodyAt<'_>) -> u8
+    ensures { result ≡ tag_number (body_of body.now) }
+{
     match body {
-        Body::Commit { .. } => 1,
-        Body::Trap { .. } => 2,
-        Body::Regs { .. } => 3,
-        Body::Csrs { .. } => 4,
-        Body::Load { .. } => 5,
-        Body::Store { .. } => 6,
-        Body::Atomic { .. } => 7,
-        Body::Drain { .. } => 8,
-        Body::Refill { .. } => 9,
-        Body::Beat => 10,
+        BodyAt::Commit { .. } => 1,
+        BodyAt::Trap { .. } => 2,
+        BodyAt::Regs { .. } => 3,
+        BodyAt::Csrs { .. } => 4,
+        BodyAt::Load { .. } => 5,
+        BodyAt::Store { .. } => 6,
+        BodyAt::Atomic { .. } => 7,
+        BodyAt::Drain { .. } => 8,
+        BodyAt::Refill { .. } => 9,
+        BodyAt::Beat => 10,
     }
 }

@@ -1,8 +1,8 @@
 ghost use Rattle.std.specs.Borrow.{GName};
-ghost use Rattle.std.specs.Prelude.{◌≡◌, ◌≢◌, ℕ, ◌<◌, ◌≤◌, ◌↔◌, List, [], length, Option, None, IsTrue, IsSome, IsNone};
+ghost use Rattle.std.specs.Prelude.{◌≡◌, ◌≢◌, ℕ, ◌<◌, ◌≤◌, ◌↔◌, List, [], length, Option, IsTrue, IsSome, IsNone};
 ghost use Rattle.dt_record.specs.declared.streams.Next.{Next};
 ghost use Rattle.dt_record.specs.Streams.{Progress, Continues, TakesAnswer, Rose};
-ghost use Rattle.dt_record.specs.Filling.{ContinuesBy, TakesAnswers, block_answers};
+ghost use Rattle.dt_record.specs.Filling.{ContinuesBy, TakesAnswers, block_answers, events_of};
 
 use crate::blocks::Block;
 use crate::records::Record;
@@ -56,9 +56,13 @@ pub trait Probes {
     /// How often the source has failed.
     ghost faults: { Self → ℕ };
 
-    // The reference that the stream reads its source through, where that source is a lent one. A
-    // stream keeps it, so who lent the source knows what became of it once the stream is gone.
-    ghost lent: { Self → Option GName } = { λ _. None };
+    // The references that the stream reads its sources through, where these are lent. A stream keeps
+    // them, so who lent a source knows what became of it once the stream is gone.
+    ghost lent: { Self → List GName } = { λ _. [] };
+
+    // What is known of the stream before and after a call in which a read failed: of one that reads
+    // bytes, that those which were read by then leave the answer open.
+    ghost had_to_read: { Self → Self → Type 0 } = { λ _ _. Unit {0} };
 
     fn is_over(&self) -> bool
         ensures { IsTrue result ↔ IsSome (progress self.now).ended };
@@ -71,6 +75,7 @@ pub trait Probes {
         ensures rising { faults self.old ≤ faults self.new }
         ensures fault { result ≡ Next.ReadFault → Rose (faults self.old) (faults self.new) }
         ensures quiet { result ≢ Next.ReadFault → faults self.new ≡ faults self.old }
+        ensures needed { result ≡ Next.ReadFault → had_to_read self.old self.new }
         ensures same_lent { lent self.new ≡ lent self.old };
 
     /// The next answers behind the header, as so many calls of `next` give them: the records go into
@@ -85,6 +90,10 @@ pub trait Probes {
         ensures rising { faults self.old ≤ faults self.new }
         ensures fault { result ≡ Stop.ReadFault → Rose (faults self.old) (faults self.new) }
         ensures quiet { result ≢ Stop.ReadFault → faults self.new ≡ faults self.old }
+        ensures needed { result ≡ Stop.ReadFault → (before : Self)
+            × ContinuesBy (progress self.old) (events_of block.new.records) (progress before)
+            × TakesAnswers (left self.old) (events_of block.new.records) (left before)
+            × had_to_read before self.new }
         ensures same_lent { lent self.new ≡ lent self.old }
     {
         'filling: while block.has_room() {

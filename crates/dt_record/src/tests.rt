@@ -86,9 +86,18 @@ fn bounds_of_fields_hold(rt: HostRuntime) {
         (trap(0x0001_0001, 2), false),
         (trap(1, interrupt + 7), false),
         (trap(0, interrupt + 7), true),
+        (at_ten(Body::Regs { pc: 4, x: [7; 31] }), true),
+        (
+            at_ten(Body::Csrs {
+                mode: 2,
+                v: [7; 17],
+            }),
+            false,
+        ),
     ];
     for (event, want) in cases {
         assert_eq!(rt; lawful(&event), want, "{event:?}");
+        assert_eq!(rt; event.lent().record(), event);
     }
     let far = Record {
         stamp: 0,
@@ -231,7 +240,8 @@ fn a_block_takes_records_up_to_the_end(rt: HostRuntime) -> Result<(), Fail> {
     let Next::Header { .. } = beats.next() else {
         panic!(rt; "no header");
     };
-    assert_eq!(rt; beats.fill(&mut block), Stop::End { count: 3 });
+    let mut lent = &mut beats;
+    assert_eq!(rt; Probes::fill(&mut lent, &mut block), Stop::End { count: 3 });
     assert_eq!(rt; block.len(), 3);
     assert_eq!(rt; block.get(2).hart, 0);
     Ok(())
@@ -249,5 +259,7 @@ fn records_that_are_kept_are_lent_again(rt: HostRuntime) -> Result<(), Fail> {
     }
     assert_eq!(rt; kept.len(), 2);
     assert_eq!(rt; (kept.get(0).stamp, kept.get(1).stamp), (3, 5));
+    let last = kept.part(1, 2);
+    assert_eq!(rt; (last.len(), last.get(0).stamp), (1, 5));
     Ok(())
 }

@@ -1,8 +1,10 @@
 ghost use Rattle.std.specs.Prelude.{◌≡◌, ℕ, ◌+◌, ◌-◌, ◌*◌, ◌%◌, ◌^◌, ◌≤◌, ◌⊎◌, ◌++◌, IsTrue, length, take, drop};
 ghost use Rattle.dt_record.specs.Lawful.{IsLawful, is_atomic_place};
+ghost use Rattle.dt_record.specs.Lent.{record_of};
 ghost use Rattle.dt_record.specs.Writes.{write_of_record, writes_memory, width_mask, line_with};
 
-use crate::keys::{Key, key_of};
+use crate::keys::Key;
+use crate::lent::{BodyAt, RecordAt, line_of};
 use crate::records::{Body, Record};
 
 /// A write to memory, within one 64-byte line. Bit i of the mask says whether byte i is written; a
@@ -56,9 +58,21 @@ pub fn write_of(event: &Record, seq: u32) -> Option<Write>
     requires { IsLawful event.now }
     ensures { result ≡ write_of_record seq event.now }
 {
-    let key = key_of(event, seq);
+    write_of_at(&event.lent(), seq)
+}
+
+/// The same of a record whose long fields are lent.
+pub fn write_of_at(event: &RecordAt<'_>, seq: u32) -> Option<Write>
+    requires { IsLawful (record_of event.now) }
+    ensures { result ≡ write_of_record seq (record_of event.now) }
+{
+    let key = Key {
+        stamp: event.stamp,
+        hart: event.hart,
+        seq,
+    };
     match event.body {
-        Body::Drain {
+        BodyAt::Drain {
             line,
             mask,
             bytes,
@@ -67,9 +81,9 @@ pub fn write_of(event: &Record, seq: u32) -> Option<Write>
             key,
             line,
             mask,
-            bytes,
+            bytes: line_of(bytes),
         }),
-        Body::Atomic {
+        BodyAt::Atomic {
             paddr,
             width,
             wrote,

@@ -1,8 +1,8 @@
 ghost use Rattle.std.specs.Prelude.{◌≡◌, if◌then◌else◌};
-ghost use Rattle.dt_record.specs.Lawful.{is_masked, is_byte_masked, is_instruction, is_ram_line, is_in_ram, are_trap_bits, is_trap_cause, is_atomic_place, is_atomic_value, is_mode};
+ghost use Rattle.dt_record.specs.Lawful.{is_masked, is_byte_masked, is_instruction, are_trap_bits, is_trap_cause, is_atomic_place, is_atomic_value, is_mode};
 ghost use Rattle.dt_record_bytes.specs.WideAnswer.{bounds_with, body_bounds_with, first_broken};
 
-use dt_record::{Body, RAM_END, RAM_START, Record};
+use dt_record::{Body, HART_LIMIT, Record, is_in_ram, is_ram_line};
 
 /// The place of the first field that breaks its bound. `wrote_byte` is the byte for whether an
 /// atomic wrote, as it was read.
@@ -10,7 +10,7 @@ pub(crate) fn broken_place(event: &Record, wrote_byte: u8) -> Option<usize>
     ensures { result ≡ first_broken (bounds_with wrote_byte event.now) }
 {
     let in_body = broken_in_body(event.stamp, &event.body, wrote_byte);
-    unless(event.hart < 8, 1, in_body)
+    unless(event.hart < HART_LIMIT, 1, in_body)
 }
 
 /// A place, unless the bound on it holds, and then the place of a later field.
@@ -57,9 +57,9 @@ fn broken_in_body(stamp: u64, body: &Body, wrote_byte: u8) -> Option<usize>
             let bytes_place = unless(is_clear_outside(*mask, bytes), 28, None);
             let count_place = unless(*count != 0, 26, bytes_place);
             let mask_place = unless(*mask != 0, 18, count_place);
-            unless(is_line(*line), 10, mask_place)
+            unless(is_ram_line(*line), 10, mask_place)
         }
-        Body::Refill { line, .. } => unless(is_line(*line), 10, None),
+        Body::Refill { line, .. } => unless(is_ram_line(*line), 10, None),
         Body::Beat => None,
     }
 }
@@ -88,22 +88,10 @@ fn is_known_mode(mode: u8) -> bool
     mode == 0 || mode == 1 || mode == 3
 }
 
-fn is_ram(addr: u64) -> bool
-    ensures { result ≡ is_in_ram addr }
-{
-    RAM_START <= addr && addr < RAM_END
-}
-
-fn is_line(line: u64) -> bool
-    ensures { result ≡ is_ram_line line }
-{
-    line % 64 == 0 && is_ram(line)
-}
-
 fn fits_place(paddr: u64, width: u8) -> bool
     ensures { result ≡ is_atomic_place paddr width }
 {
-    (width == 4 || width == 8) && paddr % u64::from(width) == 0 && is_ram(paddr)
+    (width == 4 || width == 8) && paddr % u64::from(width) == 0 && is_in_ram(paddr)
 }
 
 fn fits_value(width: u8, wrote: bool, new: u64) -> bool

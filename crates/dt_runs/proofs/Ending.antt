@@ -29,7 +29,8 @@ ended v image writes wide records more run None is over at =
       failure = is;
       notes = run.notes ∙ sym (notes_longer 0 records more run.allowed (omega (arith, at.0)));
     }
-ended v image writes wide records more run (Some f) is over at =
+ended v image writes wide records more run (Some f) is over both =
+    let at = both.0 in
     let hart = v.hart.arch.hart in
     let here : slice_get (records ++ more) (length run.allowed) ≡ Some at.own = at_left records more (length run.allowed) (omega (arith, at.last)) ∙ at.there in
     record {

@@ -1,8 +1,8 @@
 -- A run goes on by one more record.
-use Rattle.std.proofs.Common.{ℕ, ◌≡◌, ◌<◌, ◌+◌, ◌==◌, Bool, Option, Some, None, List, [], ◌∷◌, ◌++◌, length, take, refl, sym, ap, ◌∙◌, subst, inl, inr, arith, Ok, Err}
+use Rattle.std.proofs.Common.{ℕ, ◌≡◌, ◌<◌, ◌≤◌, ◌+◌, ◌==◌, Bool, Option, Some, None, List, [], ◌∷◌, ◌++◌, length, take, drop, refl, sym, ap, ◌∙◌, subst, inl, inr, arith, Ok, Err}
 use Rattle.std.specs.List.{slice_get}
 use Rattle.std.proofs.lemmas.Bool.{cond-false, ne_eqb}
-use Rattle.std.proofs.lemmas.List.{length-append, take_all, take_at}
+use Rattle.std.proofs.lemmas.List.{append_assoc, drop-append-le, length-append, length-drop, take_all, take_at}
 use Rattle.std.proofs.lemmas.Option.{slice_get_within}
 use Rattle.dt_record.specs.declared.accesses.LoadAsk.{LoadAsk}
 use Rattle.dt_record.specs.declared.records.Record.{Record}
@@ -14,7 +14,8 @@ use Rattle.dt_versions.specs.History.{History}
 use Rattle.dt_rules.specs.declared.misfits.Misfit.{Misfit}
 use Rattle.dt_loads.specs.declared.reading.Passed.{Passed}
 use Rattle.dt_reference.specs.HartActions.{action_of, actions_of}
-use Rattle.dt_sources.specs.Choice.{ChoosesLeast, with_moment}
+use Rattle.dt_record.specs.LoadSources.{AreLeastSources}
+use Rattle.dt_sources.specs.Choice.{with_moment}
 use Rattle.dt_hart.specs.HartView.{HartView}
 use Rattle.dt_hart.specs.Settings.{Setting, did, moments_after}
 use Rattle.dt_hart.specs.Standing.{StandsFor}
@@ -69,11 +70,11 @@ setting_there image writes wide hart before more moments n is = ap (λ rs. setti
 
 allowed_push : EarlierMomentsDecide → (image : List ℕ) (writes : List Write) (wide : Bool) (hart : ℕ) (before : List Record) (r : Record) (moments next : ℕ → ℕ) (allowed : List Passed) (p : Passed)
     → length allowed ≡ length before → AgreeAtLoads (actions_of before) moments next → AreAllowed image writes wide hart before moments allowed
-    → Finds (setting_after image writes wide hart before moments) r (Ok p) → ChoosesLeast image writes (actions_of (before ++ r ∷ [])) next
+    → Finds (setting_after image writes wide hart before moments) r (Ok p) → AreLeastSources image writes (actions_of (before ++ r ∷ [])) next
     → AreAllowed image writes wide hart (before ++ r ∷ []) next (allowed ++ p ∷ [])
 allowed_push decide image writes wide hart before r moments next allowed p count agree are finds chosen = record {
   chosen =
-      subst (λ rs. ChoosesLeast image writes (actions_of rs) next)
+      subst (λ rs. AreLeastSources image writes (actions_of rs) next)
       (sym (take_all (length (allowed ++ p ∷ [])) (before ++ r ∷ []) (omega (arith, count, length-append allowed (p ∷ []), length-append before (r ∷ [])))))
       chosen;
   each = λ n q there. elim (at_push allowed p n q there) [
@@ -96,63 +97,92 @@ allowed_push decide image writes wide hart before r moments next allowed p count
   ];
 }
 
+-- what is noted behind earlier records goes on by an allowed one
+notes_behind : (earlier before : List Record) (allowed : List Passed) (r : Record) (p : Passed) (notes more : List Noted) (seq : ℕ) → length allowed ≡ length (earlier ++ before) → seq ≡ length allowed
+    → notes ≡ notes_from (length earlier) before (drop (length earlier) allowed) → more ≡ notes ++ note_of (key_of seq r) p
+    → more ≡ notes_from (length earlier) (before ++ r ∷ []) (drop (length earlier) (allowed ++ p ∷ []))
+notes_behind earlier before allowed r p notes more seq count is were noted =
+    let n = length earlier in
+    let behind = drop n allowed in
+    let long = length-append earlier before in
+    let cut = length-drop n allowed in
+    let same : length behind ≡ length before = omega arith in
+    let place : seq ≡ n + length behind = omega arith in
+    let within : n ≤ length allowed = omega arith in
+    noted
+    ∙ ap (λ (ns : List Noted). ns ++ note_of (key_of seq r) p) were
+    ∙ ap (λ k. notes_from n before behind ++ note_of (key_of k r) p) place
+    ∙ sym (notes_push n before behind r p same)
+    ∙ ap (notes_from n (before ++ r ∷ [])) (sym (drop-append-le n allowed (p ∷ []) within))
+
 pub on_allowed : EarlierMomentsDecide → (old new : RunView) (held : History) (r : Record) (p : Passed) → old.failure ≡ None → new.failure ≡ None
     → Allows old.hart new.hart held r p → new.notes ≡ old.notes ++ note_of (key_of old.hart.seq r) p → RunsOn old new held r
-on_allowed decide old new held r p none still allows noted writes wide before more own until run =
+on_allowed decide old new held r p none still allows noted writes wide earlier before more own until run =
     let hart = old.hart.arch.hart in
-    let at = subst (EndsWith old.hart held.image writes wide before run.moments (length run.allowed)) none run.ends in
-    let s = setting_after held.image writes wide hart before run.moments in
-    let ready = meets held writes wide before more old.hart r run.moments own until at.1 in
+    let all : List Record = earlier ++ before in
+    let at = subst (EndsWith old.hart held.image writes wide all run.moments (length run.allowed)) none run.ends in
+    let s = setting_after held.image writes wide hart all run.moments in
+    let ready = meets held writes wide all more old.hart r run.moments own until at.1 in
     let gone = allows.goes_on s ready in
-    let next = moments_after s (action_of (length before) r) gone.0 in
+    let next = moments_after s (action_of (length all) r) gone.0 in
     let number : hart ≡ new.hart.arch.hart = sym allows.hart in
+    let joined : all ++ r ∷ [] ≡ earlier ++ (before ++ r ∷ []) = append_assoc earlier before (r ∷ []) in
     record {
       allowed = run.allowed ++ p ∷ [];
       moments = next;
       are_allowed =
-          subst (λ h. AreAllowed held.image writes wide h (before ++ r ∷ []) next (run.allowed ++ p ∷ [])) number
-          (allowed_push decide held.image writes wide hart before r run.moments next run.allowed p at.0 (next_agrees s (action_of (length before) r) gone.0) run.are_allowed (allows.finds s ready)
-          gone.1.chosen);
+          subst (λ rs. AreAllowed held.image writes wide new.hart.arch.hart rs next (run.allowed ++ p ∷ [])) joined
+          (subst (λ h. AreAllowed held.image writes wide h (all ++ r ∷ []) next (run.allowed ++ p ∷ [])) number
+          (allowed_push decide held.image writes wide hart all r run.moments next run.allowed p at.0 (next_agrees s (action_of (length all) r) gone.0) run.are_allowed (allows.finds s ready)
+          gone.1.chosen));
       ends =
-          subst (EndsWith new.hart held.image writes wide (before ++ r ∷ []) next (length (run.allowed ++ p ∷ []))) (sym still) (
-            omega (arith, at.0, length-append run.allowed (p ∷ []), length-append before (r ∷ [])),
-            subst (λ h. StandsFor new.hart (setting_after held.image writes wide h (before ++ r ∷ []) next)) number gone.1,
-          );
-      notes =
-          noted
-          ∙ ap (λ (ns : List Noted). ns ++ note_of (key_of old.hart.seq r) p) run.notes
-          ∙ ap (λ n. notes_from 0 before run.allowed ++ note_of (key_of n r) p) (omega (arith, at.0, at.1.seq))
-          ∙ sym (notes_push 0 before run.allowed r p at.0);
+          subst (λ rs. EndsWith new.hart held.image writes wide rs next (length (run.allowed ++ p ∷ [])) new.failure) joined
+          (subst (EndsWith new.hart held.image writes wide (all ++ r ∷ []) next (length (run.allowed ++ p ∷ []))) (sym still) (
+            omega (arith, at.0, length-append run.allowed (p ∷ []), length-append all (r ∷ [])),
+            subst (λ h. StandsFor new.hart (setting_after held.image writes wide h (all ++ r ∷ []) next)) number gone.1,
+          ));
+      notes = notes_behind earlier before run.allowed r p old.notes new.notes old.hart.seq at.0 (omega (arith, at.0, at.1.seq)) run.notes noted;
     }
 
 -- ---- a record that is not
 
 pub on_refused : (old new : RunView) (held : History) (r : Record) (m : Misfit) (f : Failure) → old.failure ≡ None → new.failure ≡ Some f
     → Refuses old.hart new.hart held r m → f ≡ failure_at (key_of old.hart.seq r) m → new.notes ≡ old.notes → RunsOn old new held r
-on_refused old new held r m f none fails refuses is noted writes wide before more own until run =
+on_refused old new held r m f none fails refuses is noted writes wide earlier before more own until run =
     let hart = old.hart.arch.hart in
-    let at = subst (EndsWith old.hart held.image writes wide before run.moments (length run.allowed)) none run.ends in
-    let s = setting_after held.image writes wide hart before run.moments in
-    let finds = refuses.finds s (meets held writes wide before more old.hart r run.moments own until at.1) in
+    let all : List Record = earlier ++ before in
+    let at = subst (EndsWith old.hart held.image writes wide all run.moments (length run.allowed)) none run.ends in
+    let s = setting_after held.image writes wide hart all run.moments in
+    let finds = refuses.finds s (meets held writes wide all more old.hart r run.moments own until at.1) in
     let number : hart ≡ new.hart.arch.hart = ap (λ (h : HartView). h.arch.hart) (sym refuses.stays) in
-    let last : LastFails held.image writes wide hart (before ++ r ∷ []) run.moments (length run.allowed) f = record {
+    let last : LastFails held.image writes wide hart (all ++ r ∷ []) run.moments (length run.allowed) f = record {
       misfit = m;
       own = r;
-      there = ap (slice_get (before ++ r ∷ [])) at.0 ∙ at_seam before r [];
-      last = omega (arith, at.0, length-append before (r ∷ []));
-      finds = subst (λ z. Finds z r (Err m)) (setting_there held.image writes wide hart before (r ∷ []) run.moments (length run.allowed) at.0) finds;
+      there = ap (slice_get (all ++ r ∷ [])) at.0 ∙ at_seam all r [];
+      last = omega (arith, at.0, length-append all (r ∷ []));
+      finds = subst (λ z. Finds z r (Err m)) (setting_there held.image writes wide hart all (r ∷ []) run.moments (length run.allowed) at.0) finds;
       failure = is ∙ ap (λ n. failure_at (key_of n r) m) (omega (arith, at.0, at.1.seq));
     } in
+    let at_count = setting_there held.image writes wide hart all (r ∷ []) run.moments (length run.allowed) at.0 in
+    let Ends : HartView → Type 0 = λ h.
+    LastFails held.image writes wide h.arch.hart (all ++ r ∷ []) run.moments (length run.allowed) f
+    × StandsFor h (setting_at held.image writes wide h.arch.hart (all ++ r ∷ []) run.moments (length run.allowed)) in
+    let joined : all ++ r ∷ [] ≡ earlier ++ (before ++ r ∷ []) = append_assoc earlier before (r ∷ []) in
+    let behind = drop (length earlier) run.allowed in
+    let few : length behind ≤ length before = omega (arith, at.0, length-append earlier before, length-drop (length earlier) run.allowed) in
+    let ends : Ends old.hart = (last, subst (λ s. StandsFor old.hart s) at_count at.1) in
     record {
       allowed = run.allowed;
       moments = run.moments;
       are_allowed =
-          subst (λ h. AreAllowed held.image writes wide h (before ++ r ∷ []) run.moments run.allowed) number
-          (allowed_longer held.image writes wide hart before (r ∷ []) run.moments run.allowed (omega (arith, at.0)) run.are_allowed);
+          subst (λ rs. AreAllowed held.image writes wide new.hart.arch.hart rs run.moments run.allowed) joined
+          (subst (λ h. AreAllowed held.image writes wide h (all ++ r ∷ []) run.moments run.allowed) number
+          (allowed_longer held.image writes wide hart all (r ∷ []) run.moments run.allowed (omega (arith, at.0)) run.are_allowed));
       ends =
-          subst (EndsWith new.hart held.image writes wide (before ++ r ∷ []) run.moments (length run.allowed)) (sym fails)
-          (subst (λ h. LastFails held.image writes wide h (before ++ r ∷ []) run.moments (length run.allowed) f) number last);
-      notes = noted ∙ run.notes ∙ sym (notes_longer 0 before (r ∷ []) run.allowed (omega (arith, at.0)));
+          subst (λ rs. EndsWith new.hart held.image writes wide rs run.moments (length run.allowed) new.failure) joined
+          (subst (EndsWith new.hart held.image writes wide (all ++ r ∷ []) run.moments (length run.allowed)) (sym fails)
+          (subst Ends (sym refuses.stays) ends));
+      notes = noted ∙ run.notes ∙ sym (notes_longer (length earlier) before (r ∷ []) behind few);
     }
 
 -- ---- either

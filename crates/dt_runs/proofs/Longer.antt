@@ -10,7 +10,7 @@ use Rattle.dt_record.specs.Actions.{Action}
 use Rattle.dt_record.specs.Keys.{key_of}
 use Rattle.dt_loads.specs.declared.reading.Passed.{Passed}
 use Rattle.dt_reference.specs.HartActions.{action_of, actions_from, actions_of}
-use Rattle.dt_sources.specs.Choice.{ChoosesLeast}
+use Rattle.dt_record.specs.LoadSources.{AreLeastSources}
 use Rattle.dt_judge.specs.Judgement.{Finds}
 use Rattle.dt_judge.specs.Runs.{AreAllowed, setting_at}
 use Rattle.dt_verdict.specs.declared.tallies.Noted.{Noted}
@@ -47,7 +47,7 @@ setting_longer image writes wide hart records more moments n within =
 pub allowed_longer : (image : List ℕ) (writes : List Write) (wide : Bool) (hart : ℕ) (records more : List Record) (moments : ℕ → ℕ) (allowed : List Passed) → length allowed ≤ length records
     → AreAllowed image writes wide hart records moments allowed → AreAllowed image writes wide hart (records ++ more) moments allowed
 allowed_longer image writes wide hart records more moments allowed few are = record {
-  chosen = subst (λ rs. ChoosesLeast image writes (actions_of rs) moments) (sym (take-append-le (length allowed) records more few)) are.chosen;
+  chosen = subst (λ rs. AreLeastSources image writes (actions_of rs) moments) (sym (take-append-le (length allowed) records more few)) are.chosen;
   each = λ n p there.
       let at = are.each n p there in
       let within = slice_get_within allowed n p there in

@@ -1,4 +1,4 @@
-use Rattle.std.specs.Prelude.{ℕ, ◌≡◌, ◌+◌, ◌==◌, Bool, Option, None, Some, List, [], ◌∷◌, ◌++◌, length, filter, slice_get, Err, IsTrue}
+use Rattle.std.specs.Prelude.{ℕ, ◌≡◌, ◌+◌, ◌==◌, Bool, Option, None, Some, List, [], ◌∷◌, ◌++◌, length, drop, filter, slice_get, Err, IsTrue}
 use Rattle.std.specs.List.{list_all}
 use Rattle.dt_record.specs.declared.records.Record.{Record}
 use Rattle.dt_record.specs.declared.writes.Write.{Write}
@@ -57,25 +57,30 @@ pub record LastFails (image : List ℕ) (writes : List Write) (wide : Bool) (har
   pub finds : Finds (setting_at image writes wide hart records moments count) own (Err misfit)
   pub failure : f ≡ failure_at (key_of count own) misfit
 
--- how a run over these records ends, so many of which are allowed: all are, and what is kept of the hart stands for them,
--- or the last one is not
+-- How a run over these records ends, so many of which are allowed: all are, or the last one is not. What is kept of the
+-- hart stands for the allowed ones.
 abbrev pub EndsWith : (h : HartView) (image : List ℕ) (writes : List Write) (wide : Bool) (records : List Record) (moments : ℕ → ℕ) (count : ℕ) → Option Failure → Type 0
 EndsWith h image writes wide records moments count None =
     (count ≡ length records) × StandsFor h (setting_after image writes wide h.arch.hart records moments)
-EndsWith h image writes wide records moments count (Some f) = LastFails image writes wide h.arch.hart records moments count f
+EndsWith h image writes wide records moments count (Some f) =
+    LastFails image writes wide h.arch.hart records moments count f × StandsFor h (setting_at image writes wide h.arch.hart records moments count)
 
--- A run over these first records of its hart, with this image and these writes: they are allowed up to the end, or up to
--- the last one, which is the failure. What a report says of the allowed ones is noted.
-pub record Runs (v : RunView) (image : List ℕ) (writes : List Write) (wide : Bool) (records : List Record) : Type 0 where
+-- A run over these records of its hart behind earlier ones, with this image and these writes: they are allowed up to the
+-- end, or up to the last one, which is the failure. What a report says of the allowed ones behind the earlier is noted.
+pub record RunsBehind (earlier : List Record) (v : RunView) (image : List ℕ) (writes : List Write) (wide : Bool) (records : List Record) : Type 0 where
   pub allowed : List Passed
   pub moments : ℕ → ℕ
-  pub are_allowed : AreAllowed image writes wide v.hart.arch.hart records moments allowed
-  pub ends : EndsWith v.hart image writes wide records moments (length allowed) v.failure
-  pub notes : v.notes ≡ notes_from 0 records allowed
+  pub are_allowed : AreAllowed image writes wide v.hart.arch.hart (earlier ++ records) moments allowed
+  pub ends : EndsWith v.hart image writes wide (earlier ++ records) moments (length allowed) v.failure
+  pub notes : v.notes ≡ notes_from (length earlier) records (drop (length earlier) allowed)
+
+-- a run over these first records of its hart
+abbrev pub Runs : RunView → (image : List ℕ) → (writes : List Write) → (wide : Bool) → List Record → Type 0
+Runs v image writes wide records = RunsBehind [] v image writes wide records
 
 -- A run goes on by its hart's next record, judged over this memory: whatever all writes are of which memory holds those
--- up to the record's cycle, and whatever records were before and come after.
+-- up to the record's cycle, and whatever records were before it, noted or not, and come after.
 abbrev pub RunsOn : (old new : RunView) (held : History) → Record → Type 0
-RunsOn old new held r = (writes : List Write) (wide : Bool) (before more : List Record)
-    → AreOwn writes old.hart.arch.hart (before ++ r ∷ more) → HoldsUntil held.writes r.stamp writes
-    → Runs old held.image writes wide before → Runs new held.image writes wide (before ++ r ∷ [])
+RunsOn old new held r = (writes : List Write) (wide : Bool) (earlier before more : List Record)
+    → AreOwn writes old.hart.arch.hart (earlier ++ before ++ r ∷ more) → HoldsUntil held.writes r.stamp writes
+    → RunsBehind earlier old held.image writes wide before → RunsBehind earlier new held.image writes wide (before ++ r ∷ [])

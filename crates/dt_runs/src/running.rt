@@ -1,4 +1,4 @@
-ghost use Rattle.std.specs.Prelude.{◌≡◌, ℕ, ◌+◌, ◌<◌, ◌≤◌, Option, None, is_some, List, [], OnOk, OnErr, IfNone};
+ghost use Rattle.std.specs.Prelude.{◌≡◌, ℕ, ◌+◌, ◌<◌, ◌≤◌, Option, None, is_some, List, [], OnOk, OnErr, IfNone, IfSome};
 ghost use Rattle.dt_record.specs.declared.writes.Write.{Write};
 ghost use Rattle.dt_record.specs.Lawful.{IsLawful};
 ghost use Rattle.dt_runs.specs.RunView.{outcome_in};
@@ -84,6 +84,7 @@ impl HartRun {
         ensures runs { OnOk result (RunsOn self.old self.new m.now event.now) }
         ensures counted { OnOk result (IfNone self.new.failure (self.new.hart.seq ≡ self.old.hart.seq + 1)) }
         ensures stamp { OnOk result (IfNone self.new.failure (self.new.hart.stamp ≡ event.now.stamp)) }
+        ensures stays { OnOk result (IfSome self.new.failure (λ f. self.new.hart ≡ self.old.hart)) }
         ensures number { self.new.hart.arch.hart ≡ self.old.hart.arch.hart }
         ensures unchanged { OnErr result (self.new ≡ self.old) }
     {

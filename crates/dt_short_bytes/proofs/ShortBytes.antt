@@ -5,9 +5,10 @@ use Rattle.std.proofs.lemmas.List.Concat.{flat_map-cons}
 use Rattle.std.proofs.lemmas.Bool.{ltb-true}
 use Rattle.dt_record.specs.declared.records.Record.{Record}
 use Rattle.dt_record.specs.Spelling.{short_bytes, varint, varint_within, present_bytes, presence, presence_bytes}
-use Rattle.dt_short_bytes.specs.declared.short_kinds.Kind.{Kind}
-use Rattle.dt_short_bytes.specs.declared.short_kinds.Kind.TheVariants as kinds
-use Rattle.dt_short_bytes.specs.ShortForms.{kind_number, Form, form_bytes, FitsForm, MayFollow}
+use Rattle.dt_record.specs.declared.kinds.Kind.{Kind}
+use Rattle.dt_record.specs.declared.kinds.Kind.TheVariants as kinds
+use Rattle.dt_record.specs.Kinds.{kind_number}
+use Rattle.dt_short_bytes.specs.ShortForms.{Form, form_bytes, FitsForm, MayFollow}
 use Rattle.dt_short_bytes.proofs.ShortGrammar.{IsBytes}
 use Rattle.dt_short_bytes.proofs.ShortVarint.{wider}
 use Rattle.dt_short_bytes.proofs.ShortTexts.{low_bytes}

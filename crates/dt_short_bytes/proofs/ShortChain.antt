@@ -6,11 +6,12 @@ use Rattle.std.proofs.lemmas.List.{append_assoc, append-nil, length-append}
 use Rattle.std.proofs.lemmas.Nat.{pow-add}
 use Rattle.dt_record.specs.Lawful.{FitsList}
 use Rattle.dt_record.specs.Spelling.{varint, word, present_bytes, presence, presence_bytes}
-use Rattle.dt_short_bytes.specs.declared.short_kinds.Kind.{Kind}
-use Rattle.dt_short_bytes.specs.declared.short_kinds.Kind.TheVariants as kinds
+use Rattle.dt_record.specs.declared.kinds.Kind.{Kind}
+use Rattle.dt_record.specs.declared.kinds.Kind.TheVariants as kinds
+use Rattle.dt_record.specs.Kinds.{kind_number}
 use Rattle.dt_short_bytes.specs.declared.short_pieces.Stop.{Stop}
 use Rattle.dt_short_bytes.specs.declared.short_pieces.Stop.TheVariants as stops
-use Rattle.dt_short_bytes.specs.ShortForms.{kind_number, field_count, line_count, Form, form_bytes, FitsForm}
+use Rattle.dt_short_bytes.specs.ShortForms.{field_count, line_count, Form, form_bytes, FitsForm}
 use Rattle.dt_short_bytes.specs.ShortReading.{◌>>=◌, Read, kind_at, byte_from, later_at, presence_at, padded, padded_at, line_at, read_at}
 use Rattle.dt_short_bytes.proofs.ShortGrammar.{IsBytes, IsBytes-back, Reads, IsFree, IsInhabited, Then, Ends, Ends-reads, Ends-free, Ends-inhabited, Then-free, Then-inhabited, Then-reads}
 use Rattle.dt_short_bytes.proofs.ShortVarint.{Later, Later-free, Later-inhabited, later_reads}

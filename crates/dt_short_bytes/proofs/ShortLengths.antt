@@ -7,8 +7,8 @@ use Rattle.std.proofs.lemmas.List.Concat.{flat_map-cons}
 use Rattle.dt_record.specs.declared.records.Record.{Record}
 use Rattle.dt_record.specs.Spelling.{varint, varint_within, present_bytes, presence, presence_bytes, short_bytes}
 use Rattle.dt_record_bytes.specs.declared.decoded.Decoded.TheVariants as answers
-use Rattle.dt_short_bytes.specs.declared.short_kinds.Kind.{Kind}
-use Rattle.dt_short_bytes.specs.declared.short_kinds.Kind.TheVariants as kinds
+use Rattle.dt_record.specs.declared.kinds.Kind.{Kind}
+use Rattle.dt_record.specs.declared.kinds.Kind.TheVariants as kinds
 use Rattle.dt_short_bytes.specs.ShortForms.{field_count, line_count, Form, form_bytes, FitsForm, IsUnfinished, MayFollow, StartsWith, IsGot, IsBad}
 use Rattle.dt_short_bytes.specs.ShortReading.{record_at, decoded_at}
 use Rattle.dt_short_bytes.proofs.ShortGrammar.{IsBytes}

@@ -12,29 +12,18 @@ use Rattle.dt_record.specs.declared.records.Body.TheVariants.{Commit, Trap, Regs
 use Rattle.dt_record.specs.Lawful.{FitsRetire, FitsList, FitsBody, is_lawful, is_masked, is_ram_line}
 use Rattle.dt_record.specs.Spelling.{flag, varint, presence_bytes, present_bytes, number_fields, line_bytes, masked_bytes, short_bytes}
 use Rattle.dt_record.specs.Tags.{tag_number}
-use Rattle.dt_short_bytes.specs.declared.short_kinds.Kind.{Kind}
-use Rattle.dt_short_bytes.specs.declared.short_kinds.Kind.TheVariants as kinds
-use Rattle.dt_short_bytes.specs.ShortForms.{kind_number, field_count, line_count, Form, form_bytes, FitsForm, MayFollow}
+use Rattle.dt_record.specs.declared.kinds.Kind.{Kind}
+use Rattle.dt_record.specs.declared.kinds.Kind.TheVariants as kinds
+use Rattle.dt_record.specs.Kinds.{kind_number, kind_of}
+use Rattle.dt_short_bytes.specs.ShortForms.{field_count, line_count, Form, form_bytes, FitsForm, MayFollow}
 use Rattle.dt_short_bytes.specs.ShortReading.{padded, below, flag_at, whole_line, spread, retire_at, body_at, if_lawful, record_at}
 use Rattle.dt_short_bytes.proofs.ShortSpread.{masked_count, masked_each, spread_length, spread_each, spread_back, masked_back}
 use Rattle.dt_short_bytes.proofs.ShortChain.{read_of_form}
 
-abbrev pub kind_of_body : Body → Kind
-kind_of_body (Commit retire) = kinds.Commit
-kind_of_body (Trap pc bits cause tval) = kinds.Trap
-kind_of_body (Regs pc x) = kinds.Regs
-kind_of_body (Csrs mode v) = kinds.Csrs
-kind_of_body (Load retire at paddr) = kinds.Load
-kind_of_body (Store pc bits paddr value) = kinds.Store
-kind_of_body (Atomic retire paddr width wrote new) = kinds.Atomic
-kind_of_body (Drain line mask count bytes) = kinds.Drain
-kind_of_body (Refill line bytes) = kinds.Refill
-kind_of_body Beat = kinds.Beat
-
 abbrev pub form_of : ℕ → Record → Form
-form_of last r = record { kind = kind_of_body r.body; hart = r.hart; later = r.stamp - last; numbers = number_fields r.body; line = line_bytes r.body }
+form_of last r = record { kind = kind_of r.body; hart = r.hart; later = r.stamp - last; numbers = number_fields r.body; line = line_bytes r.body }
 
-tag_is : (b : Body) → tag_number b ≡ kind_number (kind_of_body b)
+tag_is : (b : Body) → tag_number b ≡ kind_number (kind_of b)
 tag_is (Commit retire) = refl
 tag_is (Trap pc bits cause tval) = refl
 tag_is (Regs pc x) = refl
@@ -56,7 +45,7 @@ flag_below : (b : Bool) → flag b < 2 ^ 64
 flag_below true = omega arith
 flag_below false = omega arith
 
-numbers_fit : (b : Body) → FitsBody b → FitsList (field_count (kind_of_body b)) (2 ^ 64) (number_fields b)
+numbers_fit : (b : Body) → FitsBody b → FitsList (field_count (kind_of b)) (2 ^ 64) (number_fields b)
 numbers_fit (Commit retire) fits = record { count_is = refl; each = (fits.pc, (let h = fits.bits in omega arith, (fits.value, tt))) }
 numbers_fit (Trap pc bits cause tval) fits = record { count_is = refl; each = (fits.0, (let h = fits.1 in omega arith, (fits.2, (fits.3, tt)))) }
 numbers_fit (Regs pc x) fits = record { count_is = ap suc fits.1.count_is; each = (fits.0, fits.1.each) }
@@ -69,7 +58,7 @@ numbers_fit (Drain line mask count bytes) fits = record { count_is = refl; each 
 numbers_fit (Refill line bytes) fits = record { count_is = refl; each = (fits.0, tt) }
 numbers_fit Beat fits = record { count_is = refl; each = tt }
 
-line_fits : (b : Body) → FitsBody b → FitsList (line_count (kind_of_body b) (number_fields b)) (2 ^ 8) (line_bytes b)
+line_fits : (b : Body) → FitsBody b → FitsList (line_count (kind_of b) (number_fields b)) (2 ^ 8) (line_bytes b)
 line_fits (Commit retire) fits = record { count_is = refl; each = tt }
 line_fits (Trap pc bits cause tval) fits = record { count_is = refl; each = tt }
 line_fits (Regs pc x) fits = record { count_is = refl; each = tt }
@@ -104,7 +93,7 @@ retire_again : (retire : Retire) (others : List ℕ) → FitsRetire retire → r
 retire_again retire others fits =
     ap (option_and_then (λ (bits : ℕ). Some (record { pc = retire.pc; bits = bits; value = retire.value }))) (below_is (2 ^ 32) retire.bits fits.bits)
 
-body_again : (b : Body) → FitsBody b → IsClear b → body_at (kind_of_body b) (padded (number_fields b)) (line_bytes b) ≡ Some b
+body_again : (b : Body) → FitsBody b → IsClear b → body_at (kind_of b) (padded (number_fields b)) (line_bytes b) ≡ Some b
 body_again (Commit retire) fits clear = ap (option_and_then (λ (r : Retire). Some (Commit r))) (retire_again retire (replicate 29 0) fits)
 body_again (Trap pc bits cause tval) fits clear = ap (option_and_then (λ (b : ℕ). Some (Trap pc b cause tval))) (below_is (2 ^ 32) bits fits.1)
 body_again (Regs pc x) fits clear = ap (λ (xs : List ℕ). Some (Regs pc xs)) (take_at x (replicate (32 - suc (length x)) 0) 31 fits.1.count_is)
@@ -156,16 +145,16 @@ record_again last r follows =
     let sum : last + (r.stamp - last) ≡ r.stamp = omega arith in
     let clear = clear_body r.stamp r.hart r.body follows.lawful in
     ap (λ (n : ℕ). option_and_then (λ (stamp : ℕ). option_and_then (λ (b : Body). if_lawful (record { stamp = stamp; hart = r.hart; body = b }))
-    (body_at (kind_of_body r.body) (padded (number_fields r.body)) (line_bytes r.body))) (below (2 ^ 64) n)) sum
+    (body_at (kind_of r.body) (padded (number_fields r.body)) (line_bytes r.body))) (below (2 ^ 64) n)) sum
     ∙ ap (option_and_then (λ (stamp : ℕ). option_and_then (λ (b : Body). if_lawful (record { stamp = stamp; hart = r.hart; body = b }))
-    (body_at (kind_of_body r.body) (padded (number_fields r.body)) (line_bytes r.body)))) (below_is (2 ^ 64) r.stamp fits)
+    (body_at (kind_of r.body) (padded (number_fields r.body)) (line_bytes r.body)))) (below_is (2 ^ 64) r.stamp fits)
     ∙ ap (option_and_then (λ (b : Body). if_lawful (record { stamp = r.stamp; hart = r.hart; body = b }))) (body_again r.body follows.fits.body clear)
     ∙ ap (λ (t : Bool). cond {A = Option Record} t (Some r) None) follows.lawful
 
 -- ---- what is read is spelled so
 
 pub record Says (b : Body) (kind : Kind) (numbers line : List ℕ) : Type 0 where
-  pub kind_is : kind_of_body b ≡ kind
+  pub kind_is : kind_of b ≡ kind
   pub fits : FitsBody b
   pub numbers_are : number_fields b ≡ numbers
   pub line_is : line_bytes b ≡ line
@@ -354,9 +343,9 @@ lawful_cases last f b r fits says below true et e =
     let back : f.later ≡ last + f.later - last = omega arith in
     let form_is : f ≡ form_of last made =
     ap (λ (k : Kind). record { kind = k; hart = f.hart; later = f.later; numbers = f.numbers; line = f.line }) (sym says.kind_is)
-    ∙ ap (λ (n : ℕ). record { kind = kind_of_body b; hart = f.hart; later = n; numbers = f.numbers; line = f.line }) back
-    ∙ ap (λ (ns : List ℕ). record { kind = kind_of_body b; hart = f.hart; later = last + f.later - last; numbers = ns; line = f.line }) (sym says.numbers_are)
-    ∙ ap (λ (bs : List ℕ). record { kind = kind_of_body b; hart = f.hart; later = last + f.later - last; numbers = number_fields b; line = bs }) (sym says.line_is) in
+    ∙ ap (λ (n : ℕ). record { kind = kind_of b; hart = f.hart; later = n; numbers = f.numbers; line = f.line }) back
+    ∙ ap (λ (ns : List ℕ). record { kind = kind_of b; hart = f.hart; later = last + f.later - last; numbers = ns; line = f.line }) (sym says.numbers_are)
+    ∙ ap (λ (bs : List ℕ). record { kind = kind_of b; hart = f.hart; later = last + f.later - last; numbers = number_fields b; line = bs }) (sym says.line_is) in
     some_body made r (IsSaid last f) e
     (record { follows = record { fits = record { stamp = below; hart = fits.hart; body = says.fits }; lawful = et; stamp = omega arith }; form_is = form_is })
 lawful_cases last f b r fits says below false et e = absurd cc

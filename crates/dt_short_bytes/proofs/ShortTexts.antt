@@ -3,10 +3,10 @@ use Rattle.std.proofs.Common.{◌≡◌, ℕ, zero, suc, ◌+◌, ◌-◌, ◌*�
 use Rattle.std.proofs.lemmas.Bool.{eqb-true, ltb-true, ltb-false, cases_lt}
 use Rattle.std.proofs.lemmas.Nat.{pow-add, pow_pos, pow_below}
 use Rattle.std.proofs.Math.Pow.{pow_mono}
-use Rattle.dt_short_bytes.specs.declared.short_kinds.Kind.{Kind}
-use Rattle.dt_short_bytes.specs.declared.short_kinds.Kind.TheVariants as kinds
-use Rattle.dt_short_bytes.specs.ShortForms.{kind_number}
-use Rattle.dt_short_bytes.specs.ShortReading.{◌>>=◌, bad, kind_with, kind_or_bad, kind_at, byte_from, presence_at}
+use Rattle.dt_record.specs.declared.kinds.Kind.{Kind}
+use Rattle.dt_record.specs.declared.kinds.Kind.TheVariants as kinds
+use Rattle.dt_record.specs.Kinds.{kind_number, kind_with}
+use Rattle.dt_short_bytes.specs.ShortReading.{◌>>=◌, bad, kind_or_bad, kind_at, byte_from, presence_at}
 use Rattle.dt_short_bytes.proofs.ShortGrammar.{IsBytes, Reads, IsFree, IsInhabited, Behind, Reads-cons, Breaks-first}
 
 -- ---- the tag

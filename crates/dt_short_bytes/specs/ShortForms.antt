@@ -2,24 +2,13 @@ use Rattle.std.specs.Prelude.{ℕ, ◌≡◌, ◌<◌, ◌≤◌, ◌^◌, List,
 use Rattle.std.specs.List.{flat_map}
 use Rattle.dt_record.specs.declared.records.Record.{Record}
 use Rattle.dt_record.specs.Lawful.{FitsRecord, FitsList, IsLawful}
+use Rattle.dt_record.specs.Kinds.{kind_number}
 use Rattle.dt_record.specs.Spelling.{varint, presence_bytes, present_bytes, short_bytes}
-use Rattle.dt_short_bytes.specs.declared.short_kinds.Kind.{Kind}
-use Rattle.dt_short_bytes.specs.declared.short_kinds.Kind.TheVariants as kinds
+use Rattle.dt_record.specs.declared.kinds.Kind.{Kind}
+use Rattle.dt_record.specs.declared.kinds.Kind.TheVariants as kinds
 
 -- What version 2 of the probe file takes for a record while it reads: the shape of a spelling,
 -- whatever its numbers are. This project's own format.
-
-abbrev pub kind_number : Kind → ℕ
-kind_number kinds.Commit = 1
-kind_number kinds.Trap = 2
-kind_number kinds.Regs = 3
-kind_number kinds.Csrs = 4
-kind_number kinds.Load = 5
-kind_number kinds.Store = 6
-kind_number kinds.Atomic = 7
-kind_number kinds.Drain = 8
-kind_number kinds.Refill = 9
-kind_number kinds.Beat = 10
 
 -- how many number fields records of a kind have
 abbrev pub field_count : Kind → ℕ

@@ -4,9 +4,10 @@ use Rattle.dt_record.specs.declared.records.Record.{Record}
 use Rattle.dt_record.specs.declared.records.Retire.{Retire}
 use Rattle.dt_record.specs.declared.records.Body.{Body}
 use Rattle.dt_record.specs.declared.records.Body.TheVariants as bodies
+use Rattle.dt_record.specs.Kinds.{kind_with}
 use Rattle.dt_record.specs.Lawful.{is_lawful}
-use Rattle.dt_short_bytes.specs.declared.short_kinds.Kind.{Kind}
-use Rattle.dt_short_bytes.specs.declared.short_kinds.Kind.TheVariants as kinds
+use Rattle.dt_record.specs.declared.kinds.Kind.{Kind}
+use Rattle.dt_record.specs.declared.kinds.Kind.TheVariants as kinds
 use Rattle.dt_short_bytes.specs.declared.short_pieces.Stop.{Stop}
 use Rattle.dt_short_bytes.specs.declared.short_pieces.Stop.TheVariants as stops
 use Rattle.dt_record_bytes.specs.declared.decoded.Decoded.{Decoded}
@@ -22,20 +23,6 @@ abbrev pub ◌>>=◌ : {A B : Type 0} → Result A Stop → (A → Result B Stop
 abbrev pub Gives : {X Y : Type 0} → (X → Y) → Result X Stop → Result Y Stop → Type 0
 Gives view (Ok x) read = read ≡ Ok (view x)
 Gives view (Err e) read = read ≡ Err e
-
-abbrev pub kind_with : ℕ → Option Kind
-kind_with tag =
-    if tag == 1 then Some kinds.Commit
-    else if tag == 2 then Some kinds.Trap
-    else if tag == 3 then Some kinds.Regs
-    else if tag == 4 then Some kinds.Csrs
-    else if tag == 5 then Some kinds.Load
-    else if tag == 6 then Some kinds.Store
-    else if tag == 7 then Some kinds.Atomic
-    else if tag == 8 then Some kinds.Drain
-    else if tag == 9 then Some kinds.Refill
-    else if tag == 10 then Some kinds.Beat
-    else None
 
 -- the byte b doesn't fit, where so many bytes come after it
 abbrev pub bad : {A : Type 0} → List ℕ → Result A Stop

@@ -12,5 +12,4 @@ mod short_tests;
 mod varints;
 
 pub use short::{LONGEST_FORM, decode2, encode2};
-pub use short_kinds::Kind;
 pub use short_laws::{one_short_spelling, short_front, short_read_back};

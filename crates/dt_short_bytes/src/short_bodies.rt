@@ -2,8 +2,7 @@ ghost use Rattle.std.specs.Prelude.{◌≡◌, ◌≤◌, ◌<◌, ◌+◌, ◌^
 ghost use Rattle.dt_record.specs.Spelling.{number_fields, line_bytes, masked_bytes};
 ghost use Rattle.dt_short_bytes.specs.ShortReading.{below, flag_at, next_byte, line_after, spread, retire_at, atomic_at, body_at};
 
-use crate::short_kinds::Kind;
-use dt_record::{Body, Retire};
+use dt_record::{Body, Kind, Retire};
 use std::alloc::AllocError;
 
 fn byte_of(number: u64) -> Option<u8>

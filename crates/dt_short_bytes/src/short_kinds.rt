@@ -1,39 +1,7 @@
 ghost use Rattle.std.specs.Prelude.{◌≡◌, ◌≤◌};
 ghost use Rattle.dt_short_bytes.specs.ShortForms.{field_count, line_count};
-ghost use Rattle.dt_short_bytes.specs.ShortReading.{kind_with};
 
-/// The kinds of records, in the order of their tags from 1 to 10.
-#[derive(Clone, Copy, Debug, PartialEq, Eq)]
-pub enum Kind {
-    Commit,
-    Trap,
-    Regs,
-    Csrs,
-    Load,
-    Store,
-    Atomic,
-    Drain,
-    Refill,
-    Beat,
-}
-
-pub(crate) fn kind_of(tag: u8) -> Option<Kind>
-    ensures { result ≡ kind_with tag }
-{
-    match tag {
-        1 => Some(Kind::Commit),
-        2 => Some(Kind::Trap),
-        3 => Some(Kind::Regs),
-        4 => Some(Kind::Csrs),
-        5 => Some(Kind::Load),
-        6 => Some(Kind::Store),
-        7 => Some(Kind::Atomic),
-        8 => Some(Kind::Drain),
-        9 => Some(Kind::Refill),
-        10 => Some(Kind::Beat),
-        _ => None,
-    }
-}
+use dt_record::Kind;
 
 /// How many number fields records of a kind have.
 pub(crate) fn fields_of(kind: Kind) -> u8

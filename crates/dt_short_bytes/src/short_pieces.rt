@@ -2,8 +2,9 @@ ghost use Rattle.std.specs.Prelude.{◌≤◌, ◌<◌, ◌+◌, ◌*◌, ◌^�
 ghost use Rattle.dt_short_bytes.specs.ShortReading.{Gives, kind_at, byte_from, presence_at, field_at, padded_at, line_at, read_at};
 ghost use Rattle.dt_short_bytes.specs.ShortPieces.{read_of};
 
-use crate::short_kinds::{Kind, fields_of, kind_of, line_len};
+use crate::short_kinds::{fields_of, line_len};
 use crate::varints::{read_groups, read_varint};
+use dt_record::Kind;
 
 /// Why no form stands at the front of some bytes.
 #[derive(Clone, Copy, Debug, PartialEq, Eq)]
@@ -32,7 +33,7 @@ fn read_kind(b: &[u8]) -> Result<(Kind, &[u8]), Stop>
 {
     match b {
         [] => Err(Stop::Short),
-        [tag, rest @ ..] => match kind_of(*tag) {
+        [tag, rest @ ..] => match Kind::with_tag(*tag) {
             Some(kind) => Ok((kind, rest)),
             None => Err(Stop::Bad { left: b.len() }),
         },

@@ -1,5 +1,5 @@
 ghost use Rattle.std.specs.Borrow.{GName};
-ghost use Rattle.std.specs.Prelude.{◌≡◌, ◌<◌, ◌≤◌, ℕ, List, [], Option, None, IfOk, IfSome, OnErr, OnOk, length, take};
+ghost use Rattle.std.specs.Prelude.{◌≡◌, ◌<◌, ◌≤◌, ℕ, List, [], Option, IfOk, IfSome, OnErr, OnOk, length, take};
 ghost use Rattle.dt_source.specs.Faults.{Rose};
 ghost use Rattle.dt_source.specs.Known.{TakesFrom, Appends};
 
@@ -15,8 +15,8 @@ pub trait Source {
     // How many faults the source has counted.
     ghost faults: { Self → ℕ };
 
-    // The reference that the source reads through, where it is a lent one.
-    ghost lent: { Self → Option GName } = { λ _. None };
+    // The references that the source reads through, where it is a lent one.
+    ghost lent: { Self → List GName } = { λ _. [] };
 
     /// Reads the next bytes into the front of the buffer and says how many: 0 only at the end.
     fn read(&mut self, buf: &mut [u8]) -> Result<usize, Failed>

@@ -71,7 +71,7 @@ pub record IsStill (actions : List Action) (byte seq : ℕ) : Type 0 where
   pub covering : IsTrue (store_covers byte held.store)
   pub ranks : rank actions (origin.Store seq) ≡ store_rank held.drained
 
-still_there : (actions : List Action) (m at byte seq : ℕ) (h : Held) → StoresAreApart actions → forwarded at (take m actions) byte ≡ Some h → h.store.seq ≡ seq → IsStill actions byte seq
+pub still_there : (actions : List Action) (m at byte seq : ℕ) (h : Held) → StoresAreApart actions → forwarded at (take m actions) byte ≡ Some h → h.store.seq ≡ seq → IsStill actions byte seq
 still_there actions m at byte seq h apart found is_seq =
     let last = forwarded_last at (take m actions) byte h found in
     let i = length last.before in

@@ -1,6 +1,7 @@
 mod Choices
 mod Floors
 mod Fronts
+mod KeyMoments
 mod KnowingLaws
 mod KnownFloors
 mod Places

@@ -1,3 +1,4 @@
+pub mod AtKeys
 pub mod Choice
 pub mod Finding
 pub mod Knowing

@@ -1,8 +1,9 @@
 //! Laws of the definitions, for the crates above. The functions do nothing.
+ghost use Rattle.dt_sources.specs.AtKeys.{ReadsAtKeysFit};
 ghost use Rattle.dt_sources.specs.Choice.{LeastChoiceIsLeast, RefusalIsExact, FrontsHaveSources, LeastChoiceGoesOn};
 ghost use Rattle.dt_sources.specs.Knowing.{KnownIsFloor, KnownFitIsFit, KnowingGoesOn, NotesAreAdded};
 
-use dt_versions::sources_rise;
+use dt_versions::{own_moments_are_visible, sources_rise};
 
 /// Where each load of a hart takes the least moment that fits, its moments are those of the least
 /// fitting assignment, and the other way round.
@@ -48,3 +49,11 @@ pub fn knowing_goes_on()
 pub fn notes_are_added()
     ensures { NotesAreAdded }
 {}
+
+/// Where each load reads memory as it stands when its turn comes, the moments of their keys fit.
+pub fn reads_at_keys_fit()
+    ensures { ReadsAtKeysFit }
+{
+    sources_rise();
+    own_moments_are_visible();
+}

@@ -14,5 +14,5 @@ pub use dt_record::{LoadAsk, Origin, Sources};
 pub use finding::{Found, find};
 pub use laws::{
     fronts_have_sources, knowing_goes_on, known_fit_is_fit, known_is_floor, least_choice_goes_on,
-    least_choice_is_least, notes_are_added, refusal_is_exact,
+    least_choice_is_least, notes_are_added, reads_at_keys_fit, refusal_is_exact,
 };

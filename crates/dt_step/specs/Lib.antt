@@ -1,4 +1,5 @@
 pub mod State
 pub mod Causes
 pub mod Plans
+pub mod Alignment
 pub mod Steps

@@ -19,7 +19,7 @@ use Rattle.dt_stores.specs.Indexed.{on_line, places_on, AreAt, splits, rises}
 use Rattle.dt_stores.specs.Late.{first_at, is_drained_by}
 use Rattle.dt_stores.specs.Lines.{places_in, taken_in}
 use Rattle.dt_stores.specs.Places.{is_store_place}
-use Rattle.dt_stores.specs.Taking.{taken_at}
+use Rattle.dt_stores.specs.Taking.{drained_at}
 use Rattle.dt_stores.specs.Sound.{AreInOrder, FindsFirst, FindsLines, IsSound}
 use Rattle.dt_stores.proofs.DrainLaws.{marked}
 use Rattle.dt_stores.proofs.Firsts.{split-within}
@@ -383,9 +383,9 @@ adds_taken old slice new line count slice_is kept added = record {
 }
 
 pub marks : (held : List Held) (lines : List Line) (key : Key) (line count : ℕ) → FindsLines held lines
-    → taken_at key (take count (drop (taken_in lines line) (places_in lines line))) held ≡ marked line key count held
+    → drained_at (Some key) (take count (drop (taken_in lines line) (places_in lines line))) held ≡ marked line key count held
 marks held lines key line count finds =
-    ap (λ (l : List ℕ). taken_at key (take count (drop (taken_in lines line) l)) held) (finds.places line) ∙ takes_marked line key (taken_in lines line) count held (finds.taken line)
+    ap (λ (l : List ℕ). drained_at (Some key) (take count (drop (taken_in lines line) l)) held) (finds.places line) ∙ takes_marked line key (taken_in lines line) count held (finds.taken line)
 
 -- how many wait on a line
 pub waiting-length : (held : List Held) (lines : List Line) (line : ℕ) → FindsLines held lines
@@ -396,3 +396,12 @@ pub more-within : (held : List Held) (lines : List Line) (line count : ℕ) → 
     → taken_in lines line + count ≤ length (places_in lines line)
 more-within held lines line count finds some enough =
     omega (arith, waiting-length held lines line finds, length-drop (taken_in lines line) (places_in lines line))
+
+-- as the code takes them
+pub marked_by : (held slice new : List Held) (lines some : List Line) (waiting : List ℕ) (key : Key) (line count n : ℕ) → FindsLines held lines → slice ≡ held → some ≡ lines
+    → waiting ≡ drop (taken_in some line) (places_in some line) → n ≡ count → new ≡ drained_at (Some key) (take n waiting) slice → new ≡ marked line key count held
+marked_by held slice new lines some waiting key line count n finds slice_is lines_is waiting_is n_is new_is =
+    new_is ∙ ap (λ (l : List Held). drained_at (Some key) (take n waiting) l) slice_is
+    ∙ ap (λ k. drained_at (Some key) (take k waiting) held) n_is
+    ∙ ap (λ l. drained_at (Some key) (take count l) held) (waiting_is ∙ ap (λ (lines : List Line). drop (taken_in lines line) (places_in lines line)) lines_is)
+    ∙ marks held lines key line count finds

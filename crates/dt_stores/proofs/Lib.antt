@@ -1,6 +1,7 @@
 mod ActionLaws
 mod DrainLaws
 mod Firsts
+mod GoingBack
 mod GoingOn
 mod Keeping
 mod Lists
@@ -9,6 +10,7 @@ mod MergeLaws
 mod PlacesOn
 mod PlanLaws
 mod RamLines
+mod Releasing
 mod Searching
 mod SearchLaws
 mod StandingLaws

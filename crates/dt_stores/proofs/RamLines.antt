@@ -1,10 +1,11 @@
-use Rattle.std.proofs.Common.{◌≡◌, ℕ, zero, suc, ◌<◌, ◌≤◌, ◌+◌, ◌%◌, ◌==◌, nat_le, nat_lt, Bool, true, false, if◌then◌else◌, Option, Some, None, List, [], ◌∷◌, ◌++◌, length, set, slice_get, get_or, IsSomeAnd, vec_len, vec_capacity, refl, sym, ap, ◌∙◌, inl, inr, arith, subst}
+use Rattle.std.proofs.Common.{◌≡◌, ℕ, zero, suc, ◌<◌, ◌≤◌, ◌+◌, ◌-◌, ◌%◌, ◌==◌, nat_le, nat_lt, Bool, true, false, if◌then◌else◌, Option, Some, None, List, [], ◌∷◌, ◌++◌, length, map, set, slice_get, get_or, IsSomeAnd, vec_len, vec_capacity, refl, sym, ap, ◌∙◌, inl, inr, arith, subst}
 use Rattle.std.specs.Option.{option_map_or}
 use Rattle.std.proofs.lemmas.Bool.{cases_Bool, cases_eq, eqb-true, eq-eqb, ne_eqb, leb-true, ltb-true, and_parts}
 use Rattle.std.proofs.lemmas.Option.{slice_get-get_or, slice_get_past}
 use Rattle.dt_record.specs.Lawful.{is_ram_line, is_in_ram}
 use Rattle.dt_stores.specs.declared.lines.Line.{Line}
 use Rattle.dt_stores.specs.Lines.{line_place, line_in, places_in, taken_in, HasRoom}
+use Rattle.dt_stores.specs.Past.{without_last}
 
 -- Lines of RAM are told apart by their places.
 
@@ -189,5 +190,67 @@ pub taken-grown : (lines : List Line) (l : Line) (other : ℕ) → l.taken ≡ 0
 taken-grown lines l other empty =
     elim (cases_Bool (is_ram_line other)) [
       | inl ram ↦ rw ram (grown (λ (l : Line). l.taken) 0 lines l (line_place other) empty)
+      | inr no_ram ↦ rw no_ram refl
+    ]
+
+-- what a write to the place of a line leaves, whatever is written
+pub set_places : (lines : List Line) (line other place : ℕ) (l : Line) (ps : List ℕ) → is_ram_line line ≡ true → place ≡ line_place line → place < length lines
+    → l.places.items ≡ ps → places_in (set lines place l) other ≡ (if other == line then ps else places_in lines other)
+set_places lines line other place l ps ram place_is within is =
+    let in_lines : line_place line < length lines = omega (arith, place_is) in
+    ap (λ p. places_in (set lines p l) other) place_is ∙ places-set lines line other l ram in_lines ∙ ap (λ (n : List ℕ). if other == line then n else places_in lines other) is
+
+pub set_taken : (lines : List Line) (line other place : ℕ) (l : Line) (taken : ℕ) → is_ram_line line ≡ true → place ≡ line_place line → place < length lines
+    → l.taken ≡ taken → taken_in (set lines place l) other ≡ (if other == line then taken else taken_in lines other)
+set_taken lines line other place l taken ram place_is within is =
+    let in_lines : line_place line < length lines = omega (arith, place_is) in
+    ap (λ p. taken_in (set lines p l) other) place_is ∙ taken-set lines line other l ram in_lines ∙ ap (λ n. if other == line then n else taken_in lines other) is
+
+pub there_places : (lines : List Line) (line place : ℕ) (d : Line) → is_ram_line line ≡ true → place ≡ line_place line → place < length lines
+    → (get_or lines place d).places.items ≡ places_in lines line
+there_places lines line place d ram place_is within =
+    let in_lines : line_place line < length lines = omega (arith, place_is) in
+    ap (λ p. (get_or lines p d).places.items) place_is ∙ sym (places_at lines line d ram in_lines)
+
+pub there_taken : (lines : List Line) (line place : ℕ) (d : Line) → is_ram_line line ≡ true → place ≡ line_place line → place < length lines
+    → (get_or lines place d).taken ≡ taken_in lines line
+there_taken lines line place d ram place_is within =
+    let in_lines : line_place line < length lines = omega (arith, place_is) in
+    ap (λ p. (get_or lines p d).taken) place_is ∙ sym (taken_at lines line d ram in_lines)
+
+-- a line that is not there has nothing to lose
+pub no_places : (lines : List Line) (line other : ℕ) → line_in lines line ≡ None → places_in lines other ≡ (if other == line then without_last (places_in lines line) else places_in lines other)
+no_places lines line other absent =
+    let empty : places_in lines line ≡ [] = ap (λ (o : Option Line). option_map_or (λ l. l.places.items) o []) absent in
+    sym (kept-at (places_in lines) line other (without_last (places_in lines line)) (ap (λ (l : List ℕ). without_last l) empty ∙ sym empty))
+
+pub no_taken : (lines : List Line) (line other count : ℕ) → line_in lines line ≡ None → taken_in lines other ≡ (if other == line then taken_in lines line - count else taken_in lines other)
+no_taken lines line other count absent =
+    let none : taken_in lines line ≡ 0 = ap (λ (o : Option Line). option_map_or (λ l. l.taken) o 0) absent in
+    sym (kept-at (taken_in lines) line other (taken_in lines line - count) (omega (arith, none)))
+
+-- copies of the lines
+abbrev pub parts : Line → List ℕ × ℕ
+parts l = (l.places.items, l.taken)
+
+slice_get-parts : {X : Type 0} (f : Line → X) (g : List ℕ × ℕ → X) (none : X) → ((l : Line) → f l ≡ g (parts l)) → (xs ys : List Line) (n : ℕ) → map parts xs ≡ map parts ys
+    → option_map_or f (slice_get xs n) none ≡ option_map_or f (slice_get ys n) none
+slice_get-parts f g none is [] [] n same = refl
+slice_get-parts f g none is [] (y ∷ ys) n same = absurd (cc same)
+slice_get-parts f g none is (x ∷ xs) [] n same = absurd (cc same)
+slice_get-parts f g none is (x ∷ xs) (y ∷ ys) zero same = (let head : parts x ≡ parts y = cc same in is x ∙ ap g head ∙ sym (is y))
+slice_get-parts f g none is (x ∷ xs) (y ∷ ys) (suc n) same = slice_get-parts f g none is xs ys n (cc same)
+
+pub places-copied : (xs ys : List Line) (line : ℕ) → map parts xs ≡ map parts ys → places_in xs line ≡ places_in ys line
+places-copied xs ys line same =
+    elim (cases_Bool (is_ram_line line)) [
+      | inl ram ↦ rw ram (slice_get-parts (λ (l : Line). l.places.items) (λ p. p.0) [] (λ l. refl) xs ys (line_place line) same)
+      | inr no_ram ↦ rw no_ram refl
+    ]
+
+pub taken-copied : (xs ys : List Line) (line : ℕ) → map parts xs ≡ map parts ys → taken_in xs line ≡ taken_in ys line
+taken-copied xs ys line same =
+    elim (cases_Bool (is_ram_line line)) [
+      | inl ram ↦ rw ram (slice_get-parts (λ (l : Line). l.taken) (λ p. p.1) 0 (λ l. refl) xs ys (line_place line) same)
       | inr no_ram ↦ rw no_ram refl
     ]

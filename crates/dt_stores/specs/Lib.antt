@@ -4,7 +4,9 @@ pub mod Indexed
 pub mod Kept
 pub mod Late
 pub mod Lines
+pub mod Marks
 pub mod Oldest
+pub mod Past
 pub mod Places
 pub mod Plans
 pub mod Sound

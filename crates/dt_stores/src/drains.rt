@@ -1,11 +1,11 @@
-ghost use Rattle.std.specs.Prelude.{◌≡◌, ◌≤◌, ◌<◌, ◌↔◌, ℕ, All, IfSome, List, option_map, length, filter, find, replicate, slice_get, bit_or, IsTrue};
-ghost use Rattle.std.specs.List.{position_or_len, cons_option};
+ghost use Rattle.std.specs.Prelude.{◌≡◌, ◌≤◌, ◌<◌, ◌↔◌, ℕ, All, IfSome, List, option_map, length, filter, find, replicate, slice_get, IsTrue};
+ghost use Rattle.std.specs.List.{position_or_len};
 ghost use Rattle.std.specs.Option.{option_map_or};
 ghost use Rattle.dt_record.specs.Actions.{Held, is_waiting};
 ghost use Rattle.dt_record.specs.Keys.{KeyBelow};
 ghost use Rattle.dt_stores.specs.Draining.{is_waiting_on, is_barring, put_over, youngest_barrier, merged_mask, merged_bytes, took, answer_among};
 ghost use Rattle.dt_stores.specs.Indexed.{AreAt, rises};
-ghost use Rattle.dt_stores.specs.Taking.{stores_at, taken_at, taken_one};
+ghost use Rattle.dt_stores.specs.Taking.{stores_at, drained_at, drained_one, AddsMask};
 
 use crate::answers::DrainAnswer;
 use crate::entries::Entry;
@@ -97,7 +97,7 @@ fn mask_of(entries: &[Entry], places: &[u32]) -> u64
 
 /// The mask of the store at a place, or 0.
 fn mask_at(entries: &[Entry], place: u32) -> u64
-    ensures { (mask : ℕ) (hs : List Held) → merged_mask mask (cons_option (slice_get entries.now place) hs) ≡ merged_mask (bit_or mask result) hs }
+    ensures { AddsMask (slice_get entries.now place) result }
 {
     match store_at(entries, place) {
         None => 0,
@@ -152,20 +152,20 @@ pub fn first_waiting(entries: &[Entry], from: usize) -> usize
     first
 }
 
-/// Notes the drain that takes the stores at these places.
-pub fn take_all(entries: &mut [Entry], places: &[u32], key: Key)
-    ensures { entries.new ≡ taken_at key places.now entries.old }
+/// Notes the drain that has taken the stores at these places, or that none has.
+pub fn set_drained(entries: &mut [Entry], places: &[u32], drain: Option<Key>)
+    ensures { entries.new ≡ drained_at drain places.now entries.old }
 {
     for place in places {
-        take_at(entries, *place as usize, key);
+        set_drained_at(entries, *place as usize, drain);
     }
 }
 
-fn take_at(entries: &mut [Entry], place: usize, key: Key)
-    ensures { entries.new ≡ taken_one key place entries.old }
+fn set_drained_at(entries: &mut [Entry], place: usize, drain: Option<Key>)
+    ensures { entries.new ≡ drained_one drain place entries.old }
 {
     if place < entries.len() {
         let e = &mut entries[place];
-        e.take(key);
+        e.set_drained(drain);
     }
 }

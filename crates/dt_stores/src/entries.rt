@@ -1,13 +1,15 @@
-ghost use Rattle.std.specs.Prelude.{◌≡◌, ◌+◌, ◌≤◌, ◌%◌, ◌↔◌, None, Some, IfSome, IsTrue, if◌then◌else◌, length, take, drop, ◌++◌};
+ghost use Rattle.std.specs.Prelude.{◌≡◌, ◌+◌, ◌≤◌, ◌%◌, ◌↔◌, None, IfSome, IsTrue, if◌then◌else◌, length, take, drop, ◌++◌};
 ghost use Rattle.dt_record.specs.Actions.{Held, store_covers, is_on, is_waiting, is_undrained};
 ghost use Rattle.dt_record.specs.Keys.{KeyBelow};
 ghost use Rattle.dt_record.specs.LoadSources.{stored_byte};
+ghost use Rattle.dt_record.specs.Memory.{line_of};
 ghost use Rattle.dt_record.specs.Writes.{width_mask};
 ghost use Rattle.dt_stores.specs.Draining.{is_barring, put_over, forward_of};
 ghost use Rattle.dt_stores.specs.Oldest.{is_asked};
 ghost use Rattle.dt_stores.specs.Places.{is_store_place};
 
 use crate::answers::{Forward, Which};
+use crate::lines::line_of;
 use dt_record::{Key, OwnStore};
 use std::marker::Model;
 
@@ -52,6 +54,13 @@ impl Entry {
         ensures { result ≡ self.now.store.seq }
     {
         self.store.seq
+    }
+
+    /// The line that holds the store.
+    pub fn line(&self) -> u64
+        ensures { result ≡ line_of self.now.store.addr }
+    {
+        line_of(self.store.addr)
     }
 
     pub fn barrier(&self) -> u32
@@ -163,11 +172,23 @@ impl Entry {
         put(bytes, place, &low[..usize::from(self.store.width)]);
     }
 
-    /// Notes the drain that takes the store.
-    pub fn take(&mut self, key: Key)
-        ensures { self.new ≡ record self.old { drained = Some key } }
+    /// Notes the drain that has taken the store, or that none has.
+    pub fn set_drained(&mut self, drain: Option<Key>)
+        ensures { self.new ≡ record self.old { drained = drain } }
     {
-        self.drained = Some(key);
+        self.drained = drain;
+    }
+
+    /// The same store.
+    pub fn copy(&self) -> Entry
+        ensures { result ≡ self.now }
+    {
+        Entry {
+            store: self.store,
+            barrier: self.barrier,
+            readers: self.readers,
+            drained: self.drained,
+        }
     }
 }
 

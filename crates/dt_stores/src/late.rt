@@ -3,6 +3,7 @@ ghost use Rattle.std.specs.List.{position_or_len};
 ghost use Rattle.std.specs.List.Sorted.{IsNonDecreasingBy};
 ghost use Rattle.std.specs.Option.{option_copied, option_map_or};
 ghost use Rattle.dt_stores.specs.Late.{first_at};
+ghost use Rattle.dt_stores.specs.Past.{last_first, without_last};
 
 /// What waited before a drain took its stores.
 #[derive(Clone, Copy, Debug)]
@@ -65,4 +66,23 @@ pub fn push_late(late: &mut Vec<Late>, stamp: u64, first: usize)
     ensures { late.new.items ≡ late.old.items ++ record { stamp = stamp; first = first } ∷ [] }
 {
     let _ = late.push(Late { stamp, first });
+}
+
+/// Drops what waited before the last drain. The answer is the place of what waits first without it.
+pub fn pop_late(late: &mut Vec<Late>, first: usize) -> usize
+    ensures first { result ≡ last_first late.old.items first }
+    ensures late { late.new.items ≡ without_last late.old.items }
+{
+    let before = first_before(late, first);
+    let _ = late.pop();
+    before
+}
+
+fn first_before(late: &[Late], first: usize) -> usize
+    ensures { result ≡ last_first late.now first }
+{
+    match late.last() {
+        None => first,
+        Some(l) => l.first,
+    }
 }

@@ -4,6 +4,7 @@ ghost use Rattle.dt_record.specs.declared.accesses.LoadAsk.{LoadAsk};
 ghost use Rattle.dt_record.specs.Actions.{Loaded, Atomic};
 ghost use Rattle.dt_stores.specs.GoingOn.{DrainsStayBelow, StoresGoOn};
 ghost use Rattle.dt_stores.specs.Kept.{Kept};
+ghost use Rattle.dt_stores.specs.Marks.{MarksStayLive};
 ghost use Rattle.dt_stores.specs.Standing.{GainsAction};
 
 /// A law: what stands for some actions stands for them and a load.
@@ -25,4 +26,9 @@ pub fn stores_go_on()
 /// A law: a key above those of all drains of a hart stays so, where it is above that of the next.
 pub fn drains_stay_below()
     ensures { DrainsStayBelow }
+{}
+
+/// A law: what is undone to, or forgotten before, leaves the marks on its other side as they were.
+pub fn marks_stay_live()
+    ensures { MarksStayLive }
 {}

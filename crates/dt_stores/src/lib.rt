@@ -6,16 +6,21 @@
 
 mod answers;
 mod buffer;
+mod copies;
 mod drains;
 mod entries;
 mod late;
 mod laws;
 mod lines;
 mod searches;
+mod steps;
 #[cfg(test)]
 mod tests;
+mod undoing;
 
 pub use answers::{DrainAnswer, Forward, Which};
-pub use buffer::Stores;
+pub use buffer::{Mark, Stores};
 pub use dt_record::OwnStore;
-pub use laws::{atomics_keep_stores, drains_stay_below, loads_keep_stores, stores_go_on};
+pub use laws::{
+    atomics_keep_stores, drains_stay_below, loads_keep_stores, marks_stay_live, stores_go_on,
+};

@@ -1,8 +1,9 @@
-ghost use Rattle.std.specs.Prelude.{◌≡◌, ℕ, ◌+◌, ◌≤◌, ◌<◌, ◌==◌, ◌++◌, ◌∷◌, [], if◌then◌else◌, length, drop, vec_len, vec_capacity, IsTrue, OnOk};
+ghost use Rattle.std.specs.Prelude.{◌≡◌, ◌+◌, ◌-◌, ◌≤◌, ◌<◌, ◌++◌, ◌∷◌, [], length, drop, vec_len, vec_capacity, IsTrue, OnOk};
 ghost use Rattle.std.specs.Option.{option_copied};
 ghost use Rattle.dt_record.specs.Lawful.{is_ram_line};
 ghost use Rattle.dt_record.specs.Memory.{line_of};
-ghost use Rattle.dt_stores.specs.Lines.{line_place, line_in, places_in, taken_in, HasRoom};
+ghost use Rattle.dt_stores.specs.Lines.{line_place, line_in, places_in, taken_in, HasRoom, KeepsPlaces, KeepsTaken, SetsPlaces, SetsTaken};
+ghost use Rattle.dt_stores.specs.Past.{without_last};
 
 use std::alloc::AllocError;
 
@@ -60,7 +61,7 @@ pub fn places_at(lines: &[Line], line: u64) -> &[u32]
 }
 
 /// How many of the first stores on a line are drained.
-fn taken_at(lines: &[Line], line: u64) -> usize
+pub fn taken_at(lines: &[Line], line: u64) -> usize
     ensures { result ≡ taken_in lines.now line }
 {
     match line_at(lines, line) {
@@ -80,8 +81,8 @@ pub fn waiting_at(lines: &[Line], line: u64) -> &[u32]
 /// Makes room for one more store on a line.
 pub fn make_room(lines: &mut Vec<Line>, line: u64) -> Result<(), AllocError>
     requires { IsTrue (is_ram_line line) }
-    ensures places { (other : ℕ) → places_in lines.new.items other ≡ places_in lines.old.items other }
-    ensures taken { (other : ℕ) → taken_in lines.new.items other ≡ taken_in lines.old.items other }
+    ensures places { KeepsPlaces lines.old.items lines.new.items }
+    ensures taken { KeepsTaken lines.old.items lines.new.items }
     ensures room { OnOk result (HasRoom lines.new.items line) }
 {
     let place = place_of(line);
@@ -94,8 +95,8 @@ pub fn make_room(lines: &mut Vec<Line>, line: u64) -> Result<(), AllocError>
 /// Gives each line up to a place its list of stores.
 fn grow(lines: &mut Vec<Line>, place: usize) -> Result<(), AllocError>
     requires { place < 1048576 }
-    ensures places { (other : ℕ) → places_in lines.new.items other ≡ places_in lines.old.items other }
-    ensures taken { (other : ℕ) → taken_in lines.new.items other ≡ taken_in lines.old.items other }
+    ensures places { KeepsPlaces lines.old.items lines.new.items }
+    ensures taken { KeepsTaken lines.old.items lines.new.items }
     ensures there { OnOk result (place < vec_len lines.new) }
 {
     while lines.len() <= place {
@@ -108,8 +109,8 @@ fn grow(lines: &mut Vec<Line>, place: usize) -> Result<(), AllocError>
 /// Adds a store on a line, at a place behind those of all others.
 pub fn add_place(lines: &mut [Line], line: u64, place: u32)
     requires { HasRoom lines.old line }
-    ensures places { (other : ℕ) → places_in lines.new other ≡ (if other == line then places_in lines.old line ++ place ∷ [] else places_in lines.old other) }
-    ensures taken { (other : ℕ) → taken_in lines.new other ≡ taken_in lines.old other }
+    ensures places { SetsPlaces lines.old lines.new line (places_in lines.old line ++ place ∷ []) }
+    ensures taken { KeepsTaken lines.old lines.new }
 {
     if is_ram_line(line) && place_of(line) < lines.len() {
         let l = &mut lines[place_of(line)];
@@ -127,11 +128,33 @@ fn push_into_room(places: &mut Vec<u32>, place: u32)
 /// So many more of the stores on a line are drained.
 pub fn add_taken(lines: &mut [Line], line: u64, count: u16)
     requires { taken_in lines.old line + count ≤ length (places_in lines.old line) }
-    ensures places { (other : ℕ) → places_in lines.new other ≡ places_in lines.old other }
-    ensures taken { (other : ℕ) → taken_in lines.new other ≡ (if other == line then taken_in lines.old line + count else taken_in lines.old other) }
+    ensures places { KeepsPlaces lines.old lines.new }
+    ensures taken { SetsTaken lines.old lines.new line (taken_in lines.old line + count) }
 {
     if is_ram_line(line) && place_of(line) < lines.len() {
         let l = &mut lines[place_of(line)];
         l.taken += usize::from(count);
+    }
+}
+
+/// Takes away the youngest store on a line.
+pub fn drop_place(lines: &mut [Line], line: u64)
+    ensures places { SetsPlaces lines.old lines.new line (without_last (places_in lines.old line)) }
+    ensures taken { KeepsTaken lines.old lines.new }
+{
+    if is_ram_line(line) && place_of(line) < lines.len() {
+        let l = &mut lines[place_of(line)];
+        let _ = l.places.pop();
+    }
+}
+
+/// So many fewer of the stores on a line are drained.
+pub fn drop_taken(lines: &mut [Line], line: u64, count: u16)
+    ensures places { KeepsPlaces lines.old lines.new }
+    ensures taken { SetsTaken lines.old lines.new line (taken_in lines.old line - count) }
+{
+    if is_ram_line(line) && place_of(line) < lines.len() {
+        let l = &mut lines[place_of(line)];
+        l.taken = l.taken.saturating_sub(usize::from(count));
     }
 }

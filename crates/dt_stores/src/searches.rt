@@ -4,7 +4,7 @@ ghost use Rattle.std.specs.Option.{option_copied, option_map_or, option_and_then
 ghost use Rattle.dt_record.specs.Actions.{Held, store_covers, is_undrained};
 ghost use Rattle.dt_stores.specs.Draining.{forward_of};
 ghost use Rattle.dt_stores.specs.Oldest.{is_asked};
-ghost use Rattle.dt_stores.specs.Indexed.{AreAt, splits};
+ghost use Rattle.dt_stores.specs.Indexed.{AreAt, are_split, youngest_over, oldest_seq, oldest_place};
 
 use crate::answers::{Forward, Which};
 use crate::entries::Entry;
@@ -35,7 +35,7 @@ fn place_at(places: &[u32], i: usize) -> Option<u32>
 /// What a load has for a byte from the youngest of these stores that covers it, where no drain by
 /// the cycle has taken that.
 pub fn forward_from(entries: &[Entry], places: &[u32], addr: u64, at: u64) -> Option<Forward>
-    ensures { (hs : List Held) → AreAt entries.now places.now hs → result ≡ option_map (forward_of addr) (find (λ h. store_covers addr h.store) (take_while (is_undrained at) (reverse hs))) }
+    ensures { (hs : List Held) → AreAt entries.now places.now hs → result ≡ option_map (forward_of addr) (youngest_over addr at hs) }
 {
     for i in 0..places.len() {
         let e = store_among(entries, places, places.len() - 1 - i)?;
@@ -52,7 +52,7 @@ pub fn forward_from(entries: &[Entry], places: &[u32], addr: u64, at: u64) -> Op
 /// The seq of the oldest of these stores, of which drains take the oldest first, that no drain by
 /// the cycle has taken.
 pub fn oldest_from(entries: &[Entry], places: &[u32], at: u64) -> Option<u32>
-    ensures { (hs : List Held) (n : ℕ) → AreAt entries.now places.now hs → IsTrue (splits (is_undrained at) n hs) → result ≡ option_map (λ h. h.store.seq) (find (is_undrained at) hs) }
+    ensures { (hs : List Held) (n : ℕ) → AreAt entries.now places.now hs → IsTrue (are_split at n hs) → result ≡ oldest_seq at hs }
 {
     match store_among(entries, places, first_undrained(entries, places, at)) {
         None => None,
@@ -61,7 +61,7 @@ pub fn oldest_from(entries: &[Entry], places: &[u32], at: u64) -> Option<u32>
 }
 
 fn first_undrained(entries: &[Entry], places: &[u32], at: u64) -> usize
-    ensures { (hs : List Held) (n : ℕ) → AreAt entries.now places.now hs → IsTrue (splits (is_undrained at) n hs) → result ≡ position_or_len (is_undrained at) hs }
+    ensures { (hs : List Held) (n : ℕ) → AreAt entries.now places.now hs → IsTrue (are_split at n hs) → result ≡ oldest_place at hs }
 {
     places.partition_point(|place| is_drained_at(entries, *place, at))
 }

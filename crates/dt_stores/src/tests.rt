@@ -1,6 +1,8 @@
+ghost use Rattle.dt_stores.specs.Marks.{KeepsMarks};
+
 use crate::{
     DrainAnswer, Forward, OwnStore, Stores, Which, atomics_keep_stores, drains_stay_below,
-    loads_keep_stores, stores_go_on,
+    loads_keep_stores, marks_stay_live, stores_go_on,
 };
 use dt_record::Key;
 use std::test::Fail;
@@ -8,6 +10,13 @@ use std::test::Fail;
 const LINE: u64 = 0x8000_0100;
 
 const NEXT_LINE: u64 = 0x8000_0140;
+
+const FIRST: OwnStore = OwnStore {
+    seq: 0,
+    addr: 0x8000_0100,
+    width: 4,
+    value: 0x0707_0707,
+};
 
 const DOUBLE: OwnStore = OwnStore {
     seq: 2,
@@ -66,7 +75,9 @@ fn forward(seq: u32, byte: u8, drained: Option<Key>) -> Option<Forward> {
 }
 
 /// A drain, where its key is above those before it.
-fn drain(stores: &mut Stores, key: Key, line: u64, count: u16) -> Option<DrainAnswer> {
+fn drain(stores: &mut Stores, key: Key, line: u64, count: u16) -> Option<DrainAnswer>
+    ensures { KeepsMarks stores.old stores.new }
+{
     if stores.can_drain(key) {
         Some(stores.drain(key, line, count))
     } else {
@@ -156,9 +167,33 @@ fn a_fence_bars_the_younger_line(rt: HostRuntime) -> Result<(), Fail> {
 }
 
 #[test]
+fn marks_are_undone_to_and_forgotten(rt: HostRuntime) -> Result<(), Fail> {
+    let mut stores = Stores::new(rt.alloc());
+    stores.commit(FIRST)?;
+    let m = stores.mark();
+    assert_eq!(rt; drain(&mut stores, key(10), LINE, 1), Some(took(0xf, 7, 0)));
+    stores.commit(NEXT)?;
+    assert_eq!(rt; stores.forward(LINE, 10), None);
+    let copy = stores.copy(rt.alloc())?;
+    stores.undo_to(m);
+    assert_eq!(rt; stores.forward(LINE, 10), forward(0, 7, None));
+    assert_eq!(rt; stores.oldest(Which::All, 10), Some(0));
+    assert_eq!(rt; stores.forward(NEXT_LINE, 10), None);
+    assert_ne!(rt; drain(&mut stores, key(11), LINE, 1), None);
+    stores.forget(m);
+    assert_eq!(rt; stores.oldest(Which::All, 11), None);
+    stores.undo_to(m);
+    assert_eq!(rt; stores.would_drain(LINE, 1), took(0xf, 7, 0));
+    assert_eq!(rt; copy.forward(NEXT_LINE, 10), forward(5, 7, None));
+    assert_eq!(rt; copy.oldest(Which::Line(LINE), 10), None);
+    Ok(())
+}
+
+#[test]
 fn laws_are_called() {
     loads_keep_stores();
     atomics_keep_stores();
     stores_go_on();
     drains_stay_below();
+    marks_stay_live();
 }

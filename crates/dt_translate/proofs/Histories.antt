@@ -3,6 +3,7 @@ use Rattle.std.proofs.Common.{◌≡◌, ℕ, ◌+◌, ◌*◌, ◌^◌, ◌%◌
 use Rattle.std.specs.Prelude.{slice_index, find}
 use Rattle.std.specs.Option.{option_map_or}
 use Rattle.std.proofs.lemmas.List.{take-take}
+use Rattle.dt_access.specs.Reaching.{reached}
 use Rattle.dt_record.specs.declared.writes.Write.{Write}
 use Rattle.dt_record.specs.Image.{image_byte}
 use Rattle.dt_record.specs.Memory.{covers, memory_at}
@@ -14,7 +15,7 @@ use Rattle.dt_walk.specs.Walk.{walk_of}
 use Rattle.dt_translate.specs.Fetches.{fetch_moments, held_moment, stands_at}
 use Rattle.dt_translate.specs.Laws.{AreAlikeAt, SameFirstWrites, SameWindows}
 use Rattle.dt_translate.specs.Newest.{IsWithin, newest}
-use Rattle.dt_translate.specs.Outcomes.{allowed_moment, entry_at, half_at, is_answer, outcome_at, reached}
+use Rattle.dt_translate.specs.Outcomes.{allowed_moment, entry_at, half_at, is_answer, outcome_at}
 use Rattle.dt_translate.proofs.Newests.{newest-same, newest-within}
 
 -- a halfword and an entry by the bytes of a memory

@@ -1,7 +1,7 @@
 -- The newest moment of a span, as a value and as a fact.
 use Rattle.std.proofs.Common.{◌≡◌, ℕ, zero, suc, ◌+◌, ◌-◌, ◌≤◌, ◌<◌, Bool, true, false, IsTrue, if◌then◌else◌, [], ◌∷◌, ◌++◌, Option, Some, None, reverse, refl, sym, ap, ◌∙◌, subst, inl, inr, arith}
 use Rattle.std.specs.List.{find, range_with_len}
-use Rattle.std.proofs.lemmas.Bool.{cases_lt}
+use Rattle.std.proofs.lemmas.Bool.{both_ways, cases_lt}
 use Rattle.std.proofs.lemmas.List.{reverse-append}
 use Rattle.dt_versions.specs.declared.moments.Span.{Span}
 use Rattle.dt_translate.specs.Newest.{HasNone, IsNewest, IsWithin, newest}
@@ -74,6 +74,56 @@ module _ (test : ℕ → Bool) where
   unfolding down newest
   newest-none span none =
       down-none span.first (span.last + 1 - span.first) (λ j from to. none j (record { from = from; to = omega arith }))
+
+  down-holds : (a n k : ℕ) → down a n ≡ Some k → IsTrue (test k) × ((j : ℕ) → k < j → j < a + n → ¬ (IsTrue (test j)))
+  unfolding down
+  down-holds a zero k is = absurd (let no : None ≡ Some k = is in cc)
+  down-holds a (suc n) k is =
+      elim (test (a + n)) as (λ b. test (a + n) ≡ b → IsTrue (test k) × ((j : ℕ) → k < j → j < a + suc n → ¬ (IsTrue (test j)))) [
+        | true ↦ λ passes.
+            let here : Some (a + n) ≡ Some k = sym (down-passes a n passes) ∙ is in
+            let same : a + n ≡ k = cc in
+            (subst (λ j. test j ≡ true) same passes, λ j above below. absurd (omega arith))
+        | false ↦ λ fails.
+            let before = down-holds a n k (sym (down-fails a n fails) ∙ is) in (
+              before.0,
+              λ j above below. elim (cases_lt j (a + n)) [
+                | inl earlier ↦ before.1 j above earlier
+                | inr last ↦ let same : j ≡ a + n = omega arith in λ passes. both_ways (test (a + n)) fails (subst (λ i. test i ≡ true) same passes)
+              ],
+            )
+      ] refl
+
+  down-misses : (a n j : ℕ) → down a n ≡ None → a ≤ j → j < a + n → ¬ (IsTrue (test j))
+  unfolding down
+  down-misses a zero j is from to = absurd (omega arith)
+  down-misses a (suc n) j is from to =
+      elim (test (a + n)) as (λ b. test (a + n) ≡ b → ¬ (IsTrue (test j))) [
+        | true ↦ λ passes. absurd (let no : Some (a + n) ≡ None = sym (down-passes a n passes) ∙ is in cc)
+        | false ↦ λ fails. elim (cases_lt j (a + n)) [
+          | inl earlier ↦ down-misses a n j (sym (down-fails a n fails) ∙ is) from earlier
+          | inr last ↦ let same : j ≡ a + n = omega arith in λ passes. both_ways (test (a + n)) fails (subst (λ i. test i ≡ true) same passes)
+        ]
+      ] refl
+
+  pub newest-holds : (span : Span) (k : ℕ) → newest test span ≡ Some k → IsNewest (λ j. IsTrue (test j)) span k
+  unfolding down newest
+  newest-holds span k is =
+      let within = newest-within span k is in
+      let holds = down-holds span.first (span.last + 1 - span.first) k is in
+      record { within = within; holds = holds.0; newest = λ j inside above. holds.1 j above (omega (arith, inside.from, inside.to)) }
+
+  newest-misses : (span : Span) (k : ℕ) → newest test span ≡ None → IsWithin span k → ¬ (IsTrue (test k))
+  unfolding down newest
+  newest-misses span k is inside = down-misses span.first (span.last + 1 - span.first) k is inside.from (omega (arith, inside.from, inside.to))
+
+  -- where some moment of a span passes, the newest is found
+  pub newest-found : (span : Span) (k : ℕ) → IsWithin span k → IsTrue (test k) → (m : ℕ) × IsNewest (λ j. IsTrue (test j)) span m
+  newest-found span k inside passes =
+      elim (newest test span) as (λ o. newest test span ≡ o → (m : ℕ) × IsNewest (λ j. IsTrue (test j)) span m) [
+        | Some m ↦ λ is. (m, newest-holds span m is)
+        | None ↦ λ is. absurd (newest-misses span k is inside passes)
+      ] refl
 
 -- tests that agree within a span have the same newest moment
 down-same : (first second : ℕ → Bool) (a n : ℕ) → ((j : ℕ) → a ≤ j → j < a + n → first j ≡ second j) → down first a n ≡ down second a n

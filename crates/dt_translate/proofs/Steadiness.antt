@@ -1,6 +1,7 @@
 -- Entries and halfwords over stretches in which their words are steady.
 use Rattle.std.proofs.Common.{◌≡◌, ℕ, ◌+◌, ◌*◌, ◌%◌, ◌^◌, ◌<◌, ◌≤◌, ◌==◌, Bool, IsTrue, List, refl, sym, ap, ◌∙◌, inl, inr, arith}
 use Rattle.std.proofs.lemmas.Bool.{cases_lt}
+use Rattle.dt_access.specs.Reaching.{reached}
 use Rattle.dt_record.specs.declared.writes.Write.{Write}
 use Rattle.dt_record.specs.Memory.{memory_at}
 use Rattle.dt_versions.specs.Words.{IsSteady, SteadyBytesStay, SteadyWordsStay, double_at}
@@ -9,7 +10,7 @@ use Rattle.dt_walk.specs.declared.arguments.WalkArgs.{WalkArgs}
 use Rattle.dt_walk.specs.declared.arguments.WalkAnswer.{WalkAnswer}
 use Rattle.dt_walk.specs.Walk.{walk_of}
 use Rattle.dt_translate.specs.Newest.{IsWithin}
-use Rattle.dt_translate.specs.Outcomes.{entry_at, half_at, outcome_at, reached}
+use Rattle.dt_translate.specs.Outcomes.{entry_at, half_at, outcome_at}
 
 -- an entry is the number of 64 bits that stands there
 pub entry_at-double : (image : List ℕ) (writes : List Write) (k addr : ℕ) → double_at image writes k addr ≡ entry_at image writes k addr

@@ -1,11 +1,13 @@
-use Rattle.std.specs.Prelude.{ℕ, ◌≡◌, ◌≤◌, Bool, false, List, take}
+use Rattle.std.specs.Prelude.{ℕ, ◌≡◌, ◌≤◌, Bool, false, List, take, Some, IsSomeAnd}
+use Rattle.dt_access.specs.Reaching.{reached}
 use Rattle.dt_record.specs.declared.writes.Write.{Write}
 use Rattle.dt_versions.specs.declared.moments.Span.{Span}
 use Rattle.dt_walk.specs.declared.arguments.WalkArgs.{WalkArgs}
 use Rattle.dt_walk.specs.declared.arguments.WalkAnswer.{WalkAnswer}
 use Rattle.dt_walk.specs.declared.arguments.WalkAnswer.TheVariants.{Page}
-use Rattle.dt_translate.specs.Fetches.{fetch_moments}
-use Rattle.dt_translate.specs.Outcomes.{allowed_moment, half_at, outcome_at, reached}
+use Rattle.dt_translate.specs.Fetches.{IsChosen, IsFetched, fetch_moments}
+use Rattle.dt_translate.specs.Newest.{IsNewest, IsWithin}
+use Rattle.dt_translate.specs.Outcomes.{allowed_moment, half_at, outcome_at}
 
 -- Laws of translation over time (this project's own).
 
@@ -33,3 +35,25 @@ SameWindows = (image : List ℕ) (ws vs : List Write) (window since : Span) (a :
 abbrev pub StaysUntranslated : Type 0
 StaysUntranslated = (image : List ℕ) (writes : List Write) (k : ℕ) (a : WalkArgs) (ram_only : Bool) → a.on ≡ false
     → outcome_at image writes k a ram_only ≡ reached ram_only (Page a.va)
+
+-- where some moment of a window gives the wanted outcome, one is chosen
+abbrev pub AMomentAllows : Type 0
+AMomentAllows = (image : List ℕ) (writes : List Write) (window : Span) (a : WalkArgs) (ram_only : Bool) (wanted : WalkAnswer) (k : ℕ)
+    → IsWithin window k → outcome_at image writes k a ram_only ≡ wanted
+    → IsSomeAnd (allowed_moment image writes window a ram_only wanted)
+    (IsNewest (λ j. outcome_at image writes j a ram_only ≡ wanted) window)
+
+-- where some moments of two spans fetch a halfword, a pair is chosen
+abbrev pub APairFetches : Type 0
+APairFetches = (image : List ℕ) (writes : List Write) (window since : Span) (a : WalkArgs) (half k1 k2 : ℕ)
+    → IsWithin window k1 → IsWithin since k2 → IsFetched image writes a half k1 k2
+    → IsSomeAnd (fetch_moments image writes window since a half) (λ pair. IsChosen image writes window since a half pair.0 pair.1)
+
+-- what is chosen is the newest that passes
+abbrev pub ChosenIsNewest : Type 0
+ChosenIsNewest = (image : List ℕ) (writes : List Write) (window : Span) (a : WalkArgs) (ram_only : Bool) (wanted : WalkAnswer) (k : ℕ)
+    → allowed_moment image writes window a ram_only wanted ≡ Some k → IsNewest (λ j. outcome_at image writes j a ram_only ≡ wanted) window k
+
+abbrev pub ChosenPairIsNewest : Type 0
+ChosenPairIsNewest = (image : List ℕ) (writes : List Write) (window since : Span) (a : WalkArgs) (half k1 k2 : ℕ)
+    → fetch_moments image writes window since a half ≡ Some (k1, k2) → IsChosen image writes window since a half k1 k2

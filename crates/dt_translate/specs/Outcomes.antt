@@ -1,6 +1,6 @@
-use Rattle.std.specs.Prelude.{ℕ, ◌+◌, ◌*◌, ◌^◌, ◌==◌, nat_lt, Bool, true, false, ◌&&◌, ◌||◌, not, if◌then◌else◌, List, Option}
+use Rattle.std.specs.Prelude.{ℕ, ◌+◌, ◌*◌, ◌^◌, ◌==◌, Bool, true, false, List, Option}
+use Rattle.dt_access.specs.Reaching.{reached}
 use Rattle.dt_record.specs.declared.writes.Write.{Write}
-use Rattle.dt_record.specs.Lawful.{is_in_ram}
 use Rattle.dt_record.specs.Memory.{memory_at}
 use Rattle.dt_versions.specs.declared.moments.Span.{Span}
 use Rattle.dt_walk.specs.declared.arguments.WalkArgs.{WalkArgs}
@@ -24,20 +24,6 @@ word_at image writes k addr = half_at image writes k addr + 2 ^ 16 * half_at ima
 -- 20211203, section 4.4.1)
 unfoldable pub entry_at : List ℕ → List Write → ℕ → ℕ → ℕ
 entry_at image writes k addr = word_at image writes k addr + 2 ^ 32 * word_at image writes k (addr + 4)
-
--- devices lie below RAM (this project's own address map)
-abbrev pub is_device : ℕ → Bool
-is_device addr = nat_lt addr 0x8000_0000
-
--- whether an access may reach a physical address: RAM always, a device unless RAM alone is allowed
-abbrev pub is_reachable : Bool → ℕ → Bool
-is_reachable ram_only addr = is_in_ram addr || (not ram_only && is_device addr)
-
--- an access fault in place of a page that the access may not reach
-abbrev pub reached : Bool → WalkAnswer → WalkAnswer
-reached ram_only (Page addr) = if is_reachable ram_only addr then Page addr else AccessFault
-reached ram_only PageFault = PageFault
-reached ram_only AccessFault = AccessFault
 
 -- the outcome of a translation after the first k writes
 unfoldable pub outcome_at : List ℕ → List Write → ℕ → WalkArgs → Bool → WalkAnswer

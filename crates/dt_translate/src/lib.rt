@@ -9,6 +9,6 @@ mod tables;
 #[cfg(test)]
 mod tests;
 
-pub use laws::{first_writes_decide, untranslated_stays};
+pub use laws::{a_moment_is_found, first_writes_decide, untranslated_stays};
 pub use outcomes::outcome;
 pub use searches::{allowed, fetch};

@@ -1,29 +1,12 @@
 ghost use Rattle.std.specs.Prelude.{◌≡◌, ◌≤◌, ◌<◌, ◌+◌, ◌%◌, length, true};
 ghost use Rattle.dt_walk.specs.Walk.{CanWalk};
 ghost use Rattle.dt_translate.specs.Fetches.{LeadsToHalf};
-ghost use Rattle.dt_translate.specs.Outcomes.{half_at, is_reachable, outcome_at, reached};
+ghost use Rattle.dt_translate.specs.Outcomes.{half_at, outcome_at};
 
 use crate::tables::Tables;
-use dt_record::{RAM_END, RAM_START};
+use dt_access::reached;
 use dt_versions::Moments;
-use dt_walk::{WalkAnswer, WalkArgs, walk};
-
-/// Whether an access may reach the physical address. Devices lie below RAM.
-fn is_reachable(ram_only: bool, addr: u64) -> bool
-    ensures { result ≡ is_reachable ram_only addr }
-{
-    let is_in_ram = RAM_START <= addr && addr < RAM_END;
-    is_in_ram || (!ram_only && addr < RAM_START)
-}
-
-fn reached(ram_only: bool, answer: WalkAnswer) -> WalkAnswer
-    ensures { result ≡ reached ram_only answer }
-{
-    match answer {
-        WalkAnswer::Page(addr) if !is_reachable(ram_only, addr) => WalkAnswer::AccessFault,
-        _ => answer,
-    }
-}
+use dt_walk::{WalkAnswer, WalkArgs, leaf_decides, walk};
 
 /// The outcome of a translation after the first k writes. It is what the walk answers, unless that
 /// is an address at which there is nothing, or with `ram_only` one outside RAM: the access faults
@@ -47,6 +30,7 @@ pub fn fetch_outcome(moments: &Moments, k: u32, a: WalkArgs) -> WalkAnswer
     ensures value { result ≡ outcome_at moments.now.image moments.now.writes k a true }
     ensures leads { LeadsToHalf result }
 {
+    leaf_decides();
     outcome(moments, k, a, true)
 }
 

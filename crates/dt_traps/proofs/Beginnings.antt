@@ -1,5 +1,6 @@
 -- Lists of writes that begin alike give the same checks of a trap.
 use Rattle.std.proofs.Common.{◌≡◌, ℕ, ◌==◌, Bool, true, false, if◌then◌else◌, List, take, Option, Some, None, option_and_then, Result, Ok, Err, refl, ◌∙◌, ap, arith}
+use Rattle.dt_access.specs.Translating.{atomic_access, walk_args}
 use Rattle.dt_alu.specs.Words.{sum_of}
 use Rattle.dt_record.specs.declared.reasons.Reason.TheVariants.{Pc}
 use Rattle.dt_record.specs.declared.writes.Write.{Write}
@@ -18,10 +19,9 @@ use Rattle.dt_rules.specs.Checks.{misfit, check, and_then}
 use Rattle.dt_checks.specs.declared.fetching.FetchSpans.{FetchSpans}
 use Rattle.dt_checks.specs.Fetching.{fetch_check, first_half}
 use Rattle.dt_checks.specs.Laws.{BeginAlike as FetchesBeginAlike, SameFetches, SameHalves}
-use Rattle.dt_checks.specs.Translating.{walk_args}
 use Rattle.dt_traps.specs.declared.traps.TrapSpans.{TrapSpans}
 use Rattle.dt_traps.specs.Faults.{fault_answer, fault_check, fault_moment, fault_of}
-use Rattle.dt_traps.specs.Instructions.{atomic_access, plan_check, planned}
+use Rattle.dt_traps.specs.Instructions.{plan_check, planned}
 use Rattle.dt_traps.specs.Laws.{BeginAlike, SameTraps}
 use Rattle.dt_traps.specs.Traps.{cause_check, entry_check, execution_check, fetch_fault_check, first_half_check, instruction_check, is_first_half, is_interrupt, raised_after, second_fault_check}
 

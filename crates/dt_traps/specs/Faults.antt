@@ -1,12 +1,12 @@
 use Rattle.std.specs.Prelude.{ℕ, ◌==◌, Bool, if◌then◌else◌, List, Option, Some, None, option_and_then, Result, Ok, Err}
-use Rattle.dt_csr.specs.declared.cause.TheConstants.{FETCH_ACCESS, FETCH_PAGE, LOAD_ACCESS, LOAD_PAGE, STORE_ACCESS, STORE_PAGE}
+use Rattle.std.specs.Option.{unwrap_or}
+use Rattle.dt_access.specs.Faults.{access_cause, fault_cause, page_cause}
 use Rattle.dt_record.specs.declared.reasons.Reason.TheVariants.{Cause}
 use Rattle.dt_record.specs.declared.writes.Write.{Write}
 use Rattle.dt_versions.specs.declared.moments.Span.{Span}
 use Rattle.dt_walk.specs.declared.arguments.Access.{Access}
-use Rattle.dt_walk.specs.declared.arguments.Access.TheVariants.{Fetch, Load, Store}
 use Rattle.dt_walk.specs.declared.arguments.WalkAnswer.{WalkAnswer}
-use Rattle.dt_walk.specs.declared.arguments.WalkAnswer.TheVariants.{Page, PageFault, AccessFault}
+use Rattle.dt_walk.specs.declared.arguments.WalkAnswer.TheVariants.{PageFault, AccessFault}
 use Rattle.dt_walk.specs.declared.arguments.WalkArgs.{WalkArgs}
 use Rattle.dt_translate.specs.Outcomes.{allowed_moment, outcome_at}
 use Rattle.dt_rules.specs.declared.misfits.Misfit.{Misfit}
@@ -15,25 +15,11 @@ use Rattle.dt_rules.specs.Checks.{misfit}
 use Rattle.dt_checks.specs.Fetching.{is_older}
 use Rattle.dt_traps.specs.declared.faults.Raised.{Raised}
 
--- Traps that an access of memory raises: a fetch, a load or a store (this project's own, where no
--- source is named).
-
--- the causes of a page fault and of an access fault (Volume II, table 3.6)
-abbrev pub page_cause : Access → ℕ
-page_cause Fetch = FETCH_PAGE
-page_cause Load = LOAD_PAGE
-page_cause Store = STORE_PAGE
-
-abbrev pub access_cause : Access → ℕ
-access_cause Fetch = FETCH_ACCESS
-access_cause Load = LOAD_ACCESS
-access_cause Store = STORE_ACCESS
+-- Traps that an access of memory raises: a fetch, a load or a store (this project's own).
 
 -- the cause that the outcome of a translation raises, and no number where it is a page
 abbrev pub cause_or_none : Access → WalkAnswer → ℕ
-cause_or_none access (Page addr) = NO_NUMBER
-cause_or_none access PageFault = page_cause access
-cause_or_none access AccessFault = access_cause access
+cause_or_none access outcome = unwrap_or (fault_cause access outcome) NO_NUMBER
 
 -- the outcome that raises a cause, if any
 abbrev pub fault_of : Access → ℕ → Option WalkAnswer

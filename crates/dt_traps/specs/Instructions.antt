@@ -1,14 +1,12 @@
 use Rattle.std.specs.Prelude.{ℕ, ◌==◌, true, false, if◌then◌else◌, List, Option, Some, None, Result, Ok, Err}
+use Rattle.dt_access.specs.Translating.{atomic_access, walk_args}
 use Rattle.dt_csr.specs.declared.cause.TheConstants.{ILLEGAL_INSTRUCTION}
 use Rattle.dt_decode.specs.declared.instructions.Instr.{Instr}
 use Rattle.dt_record.specs.declared.reasons.Reason.TheVariants.{Cause}
 use Rattle.dt_record.specs.declared.writes.Write.{Write}
 use Rattle.dt_record.specs.Lawful.{is_instruction}
 use Rattle.dt_versions.specs.declared.moments.Span.{Span}
-use Rattle.dt_walk.specs.declared.arguments.Access.{Access}
 use Rattle.dt_walk.specs.declared.arguments.Access.TheVariants.{Load, Store}
-use Rattle.dt_step.specs.declared.plans.AtomicOp.{AtomicOp}
-use Rattle.dt_step.specs.declared.plans.AtomicOp.TheVariants.{Lr, Sc, Amo}
 use Rattle.dt_step.specs.declared.plans.Planned.{Planned}
 use Rattle.dt_step.specs.declared.plans.Planned.TheVariants.{NeedsLoad, NeedsStore, NeedsAtomic, Raises}
 use Rattle.dt_step.specs.declared.state.Arch.{Arch}
@@ -17,7 +15,6 @@ use Rattle.dt_reference.specs.Meaning.{meaning_of}
 use Rattle.dt_rules.specs.declared.misfits.Misfit.{Misfit}
 use Rattle.dt_rules.specs.declared.misfits.TheConstants.{NO_NUMBER}
 use Rattle.dt_rules.specs.Checks.{misfit, check}
-use Rattle.dt_checks.specs.Translating.{walk_args}
 use Rattle.dt_traps.specs.declared.faults.Raised.{Raised}
 use Rattle.dt_traps.specs.Faults.{raised, fault_check}
 
@@ -30,12 +27,6 @@ planned_as a bits None = Raises ILLEGAL_INSTRUCTION bits
 
 abbrev pub planned : Arch → (bits : ℕ) → Planned
 planned a bits = planned_as a bits (meaning_of bits)
-
--- what an atomic's address is translated for: to load there by an LR, to store there by any other (Volume II, section 4.3.1)
-abbrev pub atomic_access : AtomicOp → Access
-atomic_access Lr = Load
-atomic_access Sc = Store
-atomic_access (Amo op) = Store
 
 -- a cause in the place of the one that is due
 abbrev pub refused : (due cause : ℕ) → Misfit

@@ -1,4 +1,5 @@
 use Rattle.std.specs.Prelude.{ℕ, ◌-◌, ◌%◌, ◌^◌, ◌≤◌, ◌==◌, nat_le, nat_lt, Bool, true, false, ◌&&◌, ◌||◌, if◌then◌else◌, List, Result, Ok}
+use Rattle.dt_access.specs.Translating.{walk_args}
 use Rattle.dt_alu.specs.Words.{sum_of}
 use Rattle.dt_csr.specs.Traps.{enabled_codes, is_enabled}
 use Rattle.dt_record.specs.declared.origins.Letters.{Letters}
@@ -12,7 +13,6 @@ use Rattle.dt_rules.specs.declared.misfits.Misfit.{Misfit}
 use Rattle.dt_rules.specs.Checks.{misfit, check, and_then}
 use Rattle.dt_checks.specs.declared.fetching.FetchSpans.{FetchSpans}
 use Rattle.dt_checks.specs.Fetching.{SpansEndWithin as FetchSpansEndWithin, fetch_check, first_half, half_check}
-use Rattle.dt_checks.specs.Translating.{walk_args}
 use Rattle.dt_traps.specs.declared.faults.Raised.{Raised}
 use Rattle.dt_traps.specs.declared.traps.TrapSpans.{TrapSpans}
 use Rattle.dt_traps.specs.Faults.{raised, fault_check}

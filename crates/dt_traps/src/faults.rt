@@ -1,9 +1,9 @@
 ghost use Rattle.std.specs.Prelude.{◌≡◌, ◌≤◌, length};
 ghost use Rattle.dt_walk.specs.Walk.{CanWalk};
-ghost use Rattle.dt_traps.specs.Faults.{access_cause, cause_or_none, fault_check, fault_moment, fault_of, page_cause};
+ghost use Rattle.dt_traps.specs.Faults.{cause_or_none, fault_check, fault_moment, fault_of};
 
+use dt_access::{access_cause, fault_cause, page_cause};
 use dt_checks::is_older;
-use dt_csr::cause::{FETCH_ACCESS, FETCH_PAGE, LOAD_ACCESS, LOAD_PAGE, STORE_ACCESS, STORE_PAGE};
 use dt_rules::{Misfit, NO_NUMBER, Reason};
 use dt_translate::{allowed, outcome};
 use dt_versions::{Moments, Span};
@@ -18,34 +18,10 @@ pub struct Raised {
     pub tval: u64,
 }
 
-fn page_cause(access: Access) -> u64
-    ensures { result ≡ page_cause access }
-{
-    match access {
-        Access::Fetch => FETCH_PAGE,
-        Access::Load => LOAD_PAGE,
-        Access::Store => STORE_PAGE,
-    }
-}
-
-fn access_cause(access: Access) -> u64
-    ensures { result ≡ access_cause access }
-{
-    match access {
-        Access::Fetch => FETCH_ACCESS,
-        Access::Load => LOAD_ACCESS,
-        Access::Store => STORE_ACCESS,
-    }
-}
-
 fn cause_or_none(access: Access, outcome: WalkAnswer) -> u64
     ensures { result ≡ cause_or_none access outcome }
 {
-    match outcome {
-        WalkAnswer::Page(_) => NO_NUMBER,
-        WalkAnswer::PageFault => page_cause(access),
-        WalkAnswer::AccessFault => access_cause(access),
-    }
+    fault_cause(access, outcome).unwrap_or(NO_NUMBER)
 }
 
 /// The outcome of a translation that raises the cause.

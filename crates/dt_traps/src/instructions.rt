@@ -1,14 +1,14 @@
 ghost use Rattle.std.specs.Prelude.{◌≡◌, ◌≤◌, length, IsTrue};
 ghost use Rattle.dt_record.specs.Lawful.{is_instruction};
 ghost use Rattle.dt_step.specs.State.{IsArch};
-ghost use Rattle.dt_traps.specs.Instructions.{access_address, address_in, atomic_access, own_check, plan_check, planned, refused};
+ghost use Rattle.dt_traps.specs.Instructions.{access_address, address_in, own_check, plan_check, planned, refused};
 
 use crate::faults::{Raised, fault};
-use dt_checks::walk_args;
+use dt_access::{atomic_access, walk_args};
 use dt_csr::cause::ILLEGAL_INSTRUCTION;
 use dt_reference::meaning;
 use dt_rules::{Misfit, NO_NUMBER, Reason};
-use dt_step::{Arch, AtomicOp, Planned, plan};
+use dt_step::{Arch, Planned, plan};
 use dt_versions::{Moments, Span};
 use dt_walk::Access;
 
@@ -24,15 +24,6 @@ pub fn planned(a: &Arch, bits: u32) -> Planned
             cause: ILLEGAL_INSTRUCTION,
             tval: u64::from(bits),
         },
-    }
-}
-
-fn atomic_access(op: AtomicOp) -> Access
-    ensures { result ≡ atomic_access op }
-{
-    match op {
-        AtomicOp::Lr => Access::Load,
-        AtomicOp::Sc | AtomicOp::Amo(_) => Access::Store,
     }
 }
 

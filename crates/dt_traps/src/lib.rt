@@ -11,5 +11,5 @@ mod tests;
 mod traps;
 
 pub use instructions::access_address;
-pub use laws::first_writes_decide_traps;
+pub use laws::{allowed_traps_are_exact, first_writes_decide_traps};
 pub use traps::{TrapSpans, trap};

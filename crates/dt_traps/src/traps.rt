@@ -6,7 +6,8 @@ ghost use Rattle.dt_traps.specs.Traps.{SpansEndWithin, cause_check, entry_check,
 
 use crate::faults::{Raised, fault};
 use crate::instructions::{plan_trap, planned};
-use dt_checks::{FetchSpans, fetched, half_fetched, walk_args};
+use dt_access::walk_args;
+use dt_checks::{FetchSpans, fetched, half_fetched};
 use dt_csr::cause::{FETCH_ACCESS, FETCH_PAGE};
 use dt_rules::{Letters, Misfit, NO_LETTERS, Reason, interrupt, tval};
 use dt_step::Arch;

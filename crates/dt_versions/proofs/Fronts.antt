@@ -24,7 +24,7 @@ filter_none p (x ∷ xs) none =
 pub record IsClosed {X : Type 0} (p : X → Bool) (xs : List X) : Type 0 where
   pub closed : (i j : ℕ) (d : X) → i < j → j < length xs → p (get_or xs j d) ≡ true → p (get_or xs i d) ≡ true
 
-front_passes : {X : Type 0} (p : X → Bool) (xs : List X) (d : X) → IsClosed p xs → list_all p (take (low_end p xs) xs) ≡ true
+pub front_passes : {X : Type 0} (p : X → Bool) (xs : List X) (d : X) → IsClosed p xs → list_all p (take (low_end p xs) xs) ≡ true
 front_passes p xs d closed = list_all-from p d (take (low_end p xs) xs) (λ i within.
     let inside : i < low_end p xs = omega (arith, length-take (low_end p xs) xs) in
     let top = at_low p xs d (omega arith) in

@@ -8,6 +8,7 @@ mod LaterWrites
 mod Lookups
 mod Newest
 mod Orders
+mod OwnMoments
 mod Places
 mod RisingSources
 mod Seams

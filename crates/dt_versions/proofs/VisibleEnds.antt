@@ -1,5 +1,4 @@
-use Rattle.std.proofs.Common.{ℕ, ◌≡◌, ◌+◌, ◌-◌, ◌<◌, ◌≤◌, ◌⊎◌, true, not, List, length, get_or, drop, ap, ◌∙◌, IsTrue, inl, inr, arith}
-use Rattle.std.specs.List.{suffix_len}
+use Rattle.std.proofs.Common.{ℕ, ◌≡◌, ◌<◌, ◌≤◌, ◌⊎◌, true, not, List, length, get_or, ap, ◌∙◌, IsTrue, inl, inr, arith}
 use Rattle.std.proofs.lemmas.Bool.{and_parts, or_cases, ltb-true, leb-true, cases_lt, both_ways}
 use Rattle.std.proofs.lemmas.List.Sums.{prefix_len-le-length}
 use Rattle.dt_record.specs.declared.keys.Key.{Key}

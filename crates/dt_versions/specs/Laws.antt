@@ -1,7 +1,8 @@
-use Rattle.std.specs.Prelude.{ℕ, ◌≡◌, ◌≤◌, ◌↔◌, false, Option, Some, None, List, take, IsTrue}
+use Rattle.std.specs.Prelude.{ℕ, ◌≡◌, ◌≤◌, ◌↔◌, false, Option, Some, None, List, take, IsTrue, Contains}
 use Rattle.dt_record.specs.declared.keys.Key.{Key}
 use Rattle.dt_record.specs.declared.writes.Write.{Write}
-use Rattle.dt_record.specs.Memory.{source_at, moment_of, is_touched}
+use Rattle.dt_record.specs.Keys.{KeyBelow}
+use Rattle.dt_record.specs.Memory.{covers, source_at, moment_of, is_touched}
 use Rattle.dt_record.specs.Visible.{IsVisible}
 use Rattle.dt_record.specs.LoadSources.{Rank, Lowest, At, rank_below}
 use Rattle.dt_versions.specs.History.{are_in_order, writes_until}
@@ -37,3 +38,25 @@ pub record AreAlike (ws vs : List Write) (key : Key) (at : ℕ) : Type 0 where
 abbrev pub LaterWritesDoNotCount : Type 0
 LaterWritesDoNotCount = (writes : List Write) (key : Key) (at : ℕ) → IsTrue (are_in_order writes) → at ≤ key.stamp
     → AreAlike writes (writes_until key.stamp writes) key at
+
+-- the moment of a key is visible for a record with this key, whatever stands later
+abbrev pub OwnMomentIsVisible : Type 0
+OwnMomentIsVisible = (writes : List Write) (key : Key) → IsTrue (are_in_order writes)
+    → IsVisible writes key key.stamp (moment_of writes key)
+
+-- the moment of a later record lies in the span from the first moment that is visible at a fence to the last that is
+-- visible at the record
+pub record LiesSince (writes : List Write) (fence key : Key) : Type 0 where
+  pub seen : first_visible writes fence fence.stamp ≤ moment_of writes fence
+  pub rises : moment_of writes fence ≤ moment_of writes key
+  pub ends : moment_of writes key ≤ last_visible writes key key.stamp
+
+abbrev pub LaterMomentsLieSince : Type 0
+LaterMomentsLieSince = (writes : List Write) (fence key : Key) → IsTrue (are_in_order writes) → KeyBelow fence key
+    → LiesSince writes fence key
+
+-- at the moment of a key no byte has a source below a write that stands before the key and covers it
+abbrev pub EarlierWritesAreHeld : Type 0
+EarlierWritesAreHeld = (writes : List Write) (key : Key) (addr : ℕ) (w : Write) → IsTrue (are_in_order writes) → Contains writes w
+    → KeyBelow w.key key → IsTrue (covers addr w)
+    → rank_below (source_rank (source_at writes (moment_of writes key) addr)) (At w.key) ≡ false

@@ -1,5 +1,5 @@
 //! Laws of the definitions, for the crates above. The functions do nothing.
-ghost use Rattle.dt_versions.specs.Laws.{VisibleIsInterval, SourcesRise, LaterWritesDoNotCount};
+ghost use Rattle.dt_versions.specs.Laws.{EarlierWritesAreHeld, VisibleIsInterval, SourcesRise, LaterMomentsLieSince, LaterWritesDoNotCount, OwnMomentIsVisible};
 ghost use Rattle.dt_versions.specs.Words.{SteadyBytesStay, SteadySourcesStay, SteadyWordsStay};
 
 /// The visible moments of a record lie between two ends, and there is always one.
@@ -22,4 +22,12 @@ pub fn steady_words_stay()
     ensures bytes { SteadyBytesStay }
     ensures sources { SteadySourcesStay }
     ensures words { SteadyWordsStay }
+{}
+
+/// The moment of a record's key is visible for it, lies in the span since each earlier fence, and holds
+/// all writes before the record.
+pub fn own_moments_are_visible()
+    ensures visible { OwnMomentIsVisible }
+    ensures since { LaterMomentsLieSince }
+    ensures held { EarlierWritesAreHeld }
 {}

@@ -11,5 +11,8 @@ mod tests;
 mod views;
 mod words;
 
-pub use laws::{later_writes_do_not_count, sources_rise, steady_words_stay, visible_is_interval};
+pub use laws::{
+    later_writes_do_not_count, own_moments_are_visible, sources_rise, steady_words_stay,
+    visible_is_interval,
+};
 pub use moments::{Moments, Span, WRITE_LIMIT};

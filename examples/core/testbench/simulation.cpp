@@ -1,14 +1,12 @@
-// Runs the clock of the testbench until the run is over. The status is 0 where the program said that it
-// passed, 1 where it said that it failed, and 3 where it did not end.
+// Runs the clock of the testbench until the run is over. `+waves=FILE` writes the waves. The status is 0
+// where the program said that it passed, 1 where it said that it failed, and 3 where it did not end.
 #include <cstdio>
 #include <memory>
 #include <string>
 
 #include "Vtestbench.h"
 #include "verilated.h"
-#if VM_TRACE
 #include "verilated_vcd_c.h"
-#endif
 
 namespace {
 
@@ -38,30 +36,22 @@ int status_of(uint64_t end_value) {
 int main(int argc, char **argv) {
     VerilatedContext context;
     context.commandArgs(argc, argv);
-#if VM_TRACE
     context.traceEverOn(true);
-#endif
     Vtestbench top{&context};
-#if VM_TRACE
     VerilatedVcdC waves;
     const std::string path = word_of(context, "waves=");
     if (!path.empty()) {
         top.trace(&waves, 99);
         waves.open(path.c_str());
     }
-#else
-    (void)word_of;
-#endif
     top.clk = 0;
     top.reset = 1;
     for (int half = 0; !context.gotFinish() && !(half > 2 * reset_cycles && top.is_over); half++) {
         top.reset = half < 2 * reset_cycles;
         top.clk = half % 2;
         top.eval();
-#if VM_TRACE
         if (waves.isOpen())
             waves.dump(static_cast<uint64_t>(half));
-#endif
         context.timeInc(1);
     }
     top.final();

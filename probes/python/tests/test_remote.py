@@ -180,6 +180,26 @@ class Questions(RemoteCase):
             self.connect({b"?": b"gone"}).ask(b"?")
 
 
+class Waits(unittest.TestCase):
+    """How long an answer is waited for."""
+
+    def setUp(self) -> None:
+        self.ours, self.theirs = socket.socketpair()
+        self.ours.settimeout(0.02)
+        self.addCleanup(self.theirs.close)
+        self.addCleanup(self.ours.close)
+
+    def test_an_answer_that_takes_several_waits(self) -> None:
+        late = threading.Timer(0.1, self.theirs.sendall, [b"+" + frame(b"OK")])
+        late.start()
+        self.addCleanup(late.join)
+        self.assertEqual(Remote(self.ours, waits=1000).ask(b"?"), b"OK")
+
+    def test_no_answer(self) -> None:
+        with self.assertRaisesRegex(RemoteError, "does not answer"):
+            Remote(self.ours, waits=3).ask(b"?")
+
+
 class Machines(RemoteCase):
     """The machine behind a stub."""
 

@@ -134,6 +134,23 @@ class Records(AdapterCase):
         ]
         self.assertEqual(self.records(rows), wanted)
 
+    def test_atomics_on_the_upper_word_of_a_doubleword(self) -> None:
+        amo, lr = asm.atomic("add", 4, 5, 6, 7), asm.atomic("lr", 4, 5, 6)
+        sc, old = asm.atomic("sc", 4, 5, 6, 7), 0xFFFFFFFF80000000
+        read = {"rd_addr": 5, "rd_wdata": old, "mem_rmask": 0xF0, "mem_rdata": 1 << 63}
+        wrote = {"mem_wmask": 0xF0, "mem_wdata": 3 << 32 | 1}
+        rows = [
+            at(0, amo, mem_addr=DATA, **read, **wrote),
+            at(1, lr, mem_addr=DATA, **read),
+            at(2, sc, mem_addr=DATA, rd_addr=5, **wrote),
+        ]
+        wanted = [
+            Atomic(0, 10, PC, amo, old, DATA + 4, 4, 1, 3),
+            Atomic(0, 11, PC + 4, lr, old, DATA + 4, 4, 0, 0),
+            Atomic(0, 12, PC + 8, sc, 0, DATA + 4, 4, 1, 3),
+        ]
+        self.assertEqual(self.records(rows), wanted)
+
     def test_rows_that_are_not_valid_are_left_out(self) -> None:
         nop = asm.addi(0, 0, 0)
         rows = [at(0, nop, valid=1), {"cycle": 3}, at(1, nop, valid=1)]

@@ -20,6 +20,9 @@ _REGISTER = re.compile(r"<reg\b([^>]*)>")
 _INCLUDE = re.compile(r'<xi:include\b[^>]*\bhref="([^"]*)"')
 _ATTRIBUTE = re.compile(r'(\w+)="([^"]*)"')
 _SENT_AT_ONCE = 32
+# An answer is waited for by parts, each as long as the connection's timeout. Where the machine stands still
+# for a while, one part is lost by it and not the whole wait.
+MOST_WAITS = 60
 
 
 class RemoteError(ProbeError):
@@ -72,22 +75,26 @@ def unframe(spelled: bytes) -> bytes:
 class Remote:
     """A connection to a stub. Each question is answered before the next one, or a batch of them is."""
 
-    def __init__(self, connection: socket.socket) -> None:
+    def __init__(self, connection: socket.socket, waits: int = MOST_WAITS) -> None:
         self._connection = connection
+        self._waits = waits
         self._received = bytearray()
         # The acknowledgement of what was received last goes out with the next question.
         self._owed = b""
 
     def _more(self) -> None:
-        try:
-            piece = self._connection.recv(65536)
-        except socket.timeout:
-            raise RemoteError("the stub does not answer") from None
-        except OSError as fault:
-            raise RemoteError(f"the stub is gone: {fault.strerror}") from None
-        if not piece:
-            raise RemoteError("the stub has closed the connection")
-        self._received += piece
+        for _ in range(self._waits):
+            try:
+                piece = self._connection.recv(65536)
+            except socket.timeout:
+                continue
+            except OSError as fault:
+                raise RemoteError(f"the stub is gone: {fault.strerror}") from None
+            if not piece:
+                raise RemoteError("the stub has closed the connection")
+            self._received += piece
+            return
+        raise RemoteError("the stub does not answer")
 
     def _send(self, data: bytes) -> None:
         try:

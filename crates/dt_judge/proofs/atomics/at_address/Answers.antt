@@ -22,12 +22,12 @@ use Rattle.dt_judge.proofs.atomics.at_address.Goals as goal
 
 -- it has an answer, where the hart remembers its actions
 abbrev IsAnswered : HartView → History → Key → AtomicAccess → Result Passed Misfit → Type 0
-IsAnswered h m key x r = (actions : List Action) (moments : ℕ → ℕ) → Remembers h m.writes key actions moments → IsAtomicAnswer (atomic_grounds m actions moments h.reserved) key x r
+IsAnswered h m key x r = (actions : List Action) (moments : ℕ → ℕ) → Remembers h m key actions moments → IsAtomicAnswer (atomic_grounds m actions moments h.reserved) key x r
 
 -- where it is allowed, it read
 abbrev Reads : HartView → History → Key → AtomicAccess → Sources → Type 0
 Reads h m key x sources =
-    (actions : List Action) (moments : ℕ → ℕ) → Remembers h m.writes key actions moments → IsTrue (reads x.op) → ReadsAtKey m.writes key x.paddr x.said_width sources
+    (actions : List Action) (moments : ℕ → ℕ) → Remembers h m key actions moments → IsTrue (reads x.op) → ReadsAtKey m.writes key x.paddr x.said_width sources
 
 read_where_allowed : AllowedAtomicsAreExact → (h : HartView) (m : History) (key : Key) (x : AtomicAccess) (r : Result Passed Misfit) → IsAnswered h m key x r → IfOk r (λ y. Reads h m key x y.sources)
 read_where_allowed law h m key x (Ok y) answered = λ actions moments known reading. reads_at_key law (atomic_grounds m actions moments h.reserved) key x y (answered actions moments known) reading

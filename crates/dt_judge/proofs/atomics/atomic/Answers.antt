@@ -22,8 +22,8 @@ returns-clause-read c =
     let said = c.args.said in
     let plan = c.in_ok-st.st.plan in
     if_ok c.planned.result
-    (λ (x : Passed). (actions : List Action) (moments : ℕ → ℕ) → Remembers h m.writes c.args.key actions moments → IsAccessedBy m.writes plan c.args.key said.paddr said.width x.sources)
-    (λ (x : Passed). (actions : List Action) (moments : ℕ → ℕ) → Remembers h m.writes c.args.key actions moments
+    (λ (x : Passed). (actions : List Action) (moments : ℕ → ℕ) → Remembers h m c.args.key actions moments → IsAccessedBy m.writes plan c.args.key said.paddr said.width x.sources)
+    (λ (x : Passed). (actions : List Action) (moments : ℕ → ℕ) → Remembers h m c.args.key actions moments
     → IsReadIn m.image m.writes actions moments (body_action c.args.key (body.Atomic c.args.retire said.paddr said.width said.wrote said.new)) x.sources)
     (λ x read actions moments known.
     accessed_is_read m.image m.writes actions moments c.args.key c.args.h.now.arch c.args.retire said.paddr said.width said.wrote said.new plan x.sources c.in_ok-st.ensures.retired (read actions moments known))

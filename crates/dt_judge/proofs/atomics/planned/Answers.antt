@@ -1,7 +1,7 @@
 use Rattle.std.proofs.Common.{ℕ, ◌≡◌, ◌||◌, Bool, true, List, sym, ap, subst, ◌∙◌}
 use Rattle.std.specs.Prelude.{IfOk}
+use Rattle.dt_access.specs.Translating.{walk_args}
 use Rattle.dt_checks.specs.Addresses.{address_check}
-use Rattle.dt_checks.specs.Translating.{walk_args}
 use Rattle.dt_loads.specs.declared.reading.Passed.{Passed}
 use Rattle.dt_record.specs.Actions.{Action}
 use Rattle.dt_step.specs.declared.plans.Planned.{Planned}
@@ -19,7 +19,7 @@ returns-after-st-clause-finds c = λ actions moments known.
     let va = c.in-NeedsAtomic.va in
     let op = c.in-NeedsAtomic.op in
     let older = c.in_ok-older-in-NeedsAtomic.older in
-    let there = ap (λ (a : Access). address_check m.image m.writes (window_kept h m.writes c.args.last va) (walk_args h.arch a va) true c.args.said.paddr) c.access_of.ensures in
+    let there = ap (λ (a : Access). address_check m.image m.writes (window_kept h m.writes c.args.last va) (walk_args h.arch a va) true c.args.said.paddr) c.atomic_access.ensures in
     let allowed = c.in_ok-older-in-NeedsAtomic.ensures.value ∙ there in
     let p : (c.args.st.stale || older) ≡ c.if-st.at_address =
     elim c.if-st.branch [
@@ -35,6 +35,6 @@ returns-after-st-clause-read c =
     let writes = c.args.m.now.writes in
     let said = c.args.said in
     subst
-    (λ (plan : Planned). IfOk c.at_address.result (λ (x : Passed). (actions : List Action) (moments : ℕ → ℕ) → Remembers h writes c.args.key actions moments
+    (λ (plan : Planned). IfOk c.at_address.result (λ (x : Passed). (actions : List Action) (moments : ℕ → ℕ) → Remembers h c.args.m.now c.args.key actions moments
     → IsAccessedBy writes plan c.args.key said.paddr said.width x.sources))
     (sym c.in-NeedsAtomic.is) c.at_address.ensures.read

@@ -45,11 +45,11 @@ returns-in-Atomic-clause-found c =
     let m = c.args.m.now in
     let its : Body = body.Atomic c.in-Atomic.retire c.in-Atomic.paddr c.in-Atomic.width c.in-Atomic.wrote c.in-Atomic.new in
     if_ok c.atomic.result
-    (λ (x : Passed). (actions : List Action) (moments : ℕ → ℕ) → Remembers h m.writes c.args.key actions moments → IsReadIn m.image m.writes actions moments (body_action c.args.key its) x.sources)
-    (λ (x : Passed). (actions : List Action) (moments : ℕ → ℕ) → Remembers h m.writes c.args.key actions moments → WasFound m.image m.writes actions moments c.args.key c.args.event.now.body x.sources)
+    (λ (x : Passed). (actions : List Action) (moments : ℕ → ℕ) → Remembers h m c.args.key actions moments → IsReadIn m.image m.writes actions moments (body_action c.args.key its) x.sources)
+    (λ (x : Passed). (actions : List Action) (moments : ℕ → ℕ) → Remembers h m c.args.key actions moments → WasFound m.image m.writes actions moments c.args.key c.args.event.now.body x.sources)
     (λ x read actions moments known.
     subst (λ (b : Body). WasFound m.image m.writes actions moments c.args.key b x.sources) (sym c.in-Atomic.is) (record { is_read = read actions moments known; is_drained = tt }))
     (subst
-    (λ (said : Said). IfOk c.atomic.result (λ (x : Passed). (actions : List Action) (moments : ℕ → ℕ) → Remembers h m.writes c.args.key actions moments
+    (λ (said : Said). IfOk c.atomic.result (λ (x : Passed). (actions : List Action) (moments : ℕ → ℕ) → Remembers h m c.args.key actions moments
     → IsReadIn m.image m.writes actions moments (body_action c.args.key (body.Atomic c.in-Atomic.retire said.paddr said.width said.wrote said.new)) x.sources))
     c.said_as-said.ensures c.atomic.ensures.read)

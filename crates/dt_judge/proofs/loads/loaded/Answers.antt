@@ -18,7 +18,7 @@ returns-then-is_in_ram-clause-finds c = λ actions moments known.
       | else-st w ↦ ap (λ (b : Bool). b || c.in_ok-older-in-NeedsLoad.older) w.if-st.false ∙ sym w.p-is
     ] in
     let ram = sym c.is_in_ram.ensures ∙ c.if-is_in_ram.true in
-    let asked = subst (λ (a : LoadAsk). Remembers h m.writes a.key actions moments) (sym c.load_ask-ask.ensures) known in
+    let asked = subst (λ (a : LoadAsk). Remembers h m a.key actions moments) (sym c.load_ask-ask.ensures) known in
     let loads = subst (λ (a : LoadAsk). LoadsRam g c.if-st.p a c.in-NeedsLoad.signed c.args.value c.from_ram.result) c.load_ask-ask.ensures (c.from_ram.ensures.finds c.args.last actions moments asked) in
     loads_by g c.args.key c.args.st.stale c.args.st.plan
     c.in-NeedsLoad.va c.in-NeedsLoad.width c.in-NeedsLoad.signed c.in-NeedsLoad.rd c.args.value c.args.at c.args.paddr
@@ -26,7 +26,7 @@ returns-then-is_in_ram-clause-finds c = λ actions moments known.
 
 pub returns-then-is_in_ram-clause-read : goal.returns-then-is_in_ram-clause-read
 returns-then-is_in_ram-clause-read c =
-    reads_by c.args.h.now c.args.m.now.image c.args.m.now.writes c.from_ram.result c.args.key c.load_ask-ask.result c.args.st.plan
+    reads_by c.args.h.now c.args.m.now c.from_ram.result c.args.key c.load_ask-ask.result c.args.st.plan
     c.in-NeedsLoad.va c.in-NeedsLoad.width c.in-NeedsLoad.signed c.in-NeedsLoad.rd c.args.value c.args.at c.args.paddr c.in-NeedsLoad.is c.load_ask-ask.ensures c.from_ram.ensures.read
 
 pub returns-in_default : goal.returns-in_default

@@ -3,5 +3,5 @@ use Rattle.dt_loads.proofs.tests.fenced.Goals as goal
 
 pub fence-requires : goal.fence-requires
 fence-requires c =
-    let stands = c.in_ok-commit.ensures.ok [] c.new-stores.ensures in
+    let stands = c.in_ok-commit.ensures.ok [] c.new-stores.ensures.stands in
     (omega (arith, stands.ww), omega (arith, stands.wr))

@@ -1,6 +1,7 @@
 use Rattle.std.proofs.Common.{subst, sym, slice_index, arith}
-use Rattle.dt_probe_file.specs.declared.reading.Version.{Version}
-use Rattle.dt_probe_file.specs.Fronts.{IsDecoded, version_of}
+use Rattle.dt_record.specs.declared.spellings.Version.{Version}
+use Rattle.dt_record.specs.Versions.{version_of}
+use Rattle.dt_probe_file.specs.Fronts.{IsDecoded}
 use Rattle.dt_probe_file.proofs.Deciding.{short_decoded}
 use Rattle.dt_probe_file.proofs.fronts.decode_in.Goals as goal
 

@@ -1,6 +1,6 @@
 use Rattle.std.proofs.Common.{get_or, subst, sym, arith}
 use Rattle.dt_probe_file.proofs.Heading.{FollowsByte, whole_header, begun_header, wrong_header}
-use Rattle.dt_probe_file.specs.declared.reading.Version.{Version}
+use Rattle.dt_record.specs.declared.spellings.Version.{Version}
 use Rattle.dt_probe_file.proofs.headers.heading_of.Goals as goal
 use Rattle.dt_probe_file.proofs.headers.heading_of.Goals.{then-bytes-eq1, else-bytes-eq1}
 

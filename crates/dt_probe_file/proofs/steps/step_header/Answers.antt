@@ -1,4 +1,4 @@
-use Rattle.dt_probe_file.specs.Fronts.{version_of}
+use Rattle.dt_record.specs.Versions.{version_of}
 use Rattle.dt_probe_file.proofs.Stepping.{header_told, no_header_told, takes_header}
 use Rattle.dt_probe_file.proofs.steps.step_header.Goals as goal
 

@@ -1,7 +1,8 @@
 use Rattle.std.proofs.Common.{ap, if◌then◌else◌}
+use Rattle.dt_access.specs.Reaching.{reached}
 use Rattle.dt_walk.specs.declared.arguments.WalkAnswer.TheVariants.{Page, PageFault}
 use Rattle.dt_walk.specs.Walk.{is_canonical, walk_from, walk_of}
-use Rattle.dt_translate.specs.Outcomes.{entry_at, outcome_at, reached}
+use Rattle.dt_translate.specs.Outcomes.{entry_at, outcome_at}
 use Rattle.dt_translate.proofs.laws.untranslated_stays.Goals as goal
 
 pub returns : goal.returns

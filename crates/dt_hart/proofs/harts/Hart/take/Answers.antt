@@ -17,7 +17,7 @@ returns-clause-goes_on c = λ s moment stands g known.
       actions = c.actions_go_on.ensures;
       knowing = c.knowing_goes_on.ensures;
       added = c.notes_are_added.ensures;
-      least = c.least_choice_goes_on.ensures;
+      choice = record { goes_on = c.least_choice_goes_on.ensures; is_least = c.least_choice_is_least.ensures };
       judging = c.judged_goes_on.ensures;
     } in
     goes_on laws c.self.inside.arch c.advance.new.a c.self.inside.seq c.self.inside.stamp c.self.inside.accesses c.take_effects.new.accesses

@@ -17,9 +17,9 @@ returns c =
     let at : AreAt c.deref.result.now c.places_at.result.now (on_line (line_of c.args.addr) c.self.inside.entries.items) =
     subst (λ l. AreAt l c.places_at.result.now (on_line (line_of c.args.addr) c.self.inside.entries.items)) (sym c.deref.ensures.value)
     (subst (λ l. AreAt c.self.inside.entries.items l (on_line (line_of c.args.addr) c.self.inside.entries.items)) (sym places)
-    (finds-line c.self.inside.entries.items c.self.inside.lines.items c.self.invariant.by_line (line_of c.args.addr))) in
-    let split = c.self.invariant.order.drained (line_of c.args.addr) c.args.at in
+    (finds-line c.self.inside.entries.items c.self.inside.lines.items c.self.invariant.now.by_line (line_of c.args.addr))) in
+    let split = c.self.invariant.now.order.drained (line_of c.args.addr) c.args.at in
     forward_stands c.args.self.now c.args.addr c.args.at c.forward_from.result
     (c.forward_from.ensures (on_line (line_of c.args.addr) c.self.inside.entries.items) at
-    ∙ ap (option_map (forward_of c.args.addr)) (forwards c.args.addr c.args.at split.0 c.self.inside.entries.items c.self.invariant.order.placed split.1)
+    ∙ ap (option_map (forward_of c.args.addr)) (forwards c.args.addr c.args.at split.0 c.self.inside.entries.items c.self.invariant.now.order.placed split.1)
     ∙ ap (λ (k : Kept). option_map (forward_of c.args.addr) (find (λ h. store_covers c.args.addr h.store) (reverse (filter (is_undrained c.args.at) k.held)))) c.self.view_is)

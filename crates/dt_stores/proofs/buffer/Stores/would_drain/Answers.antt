@@ -13,7 +13,7 @@ use Rattle.dt_stores.proofs.buffer.Stores.would_drain.Goals as goal
 pub waiting_at-waiting-requires : goal.waiting_at-waiting-requires
 waiting_at-waiting-requires c =
     let Within : List Line → Type 0 = λ lines. taken_in lines c.args.line ≤ length (places_in lines c.args.line) in
-    subst Within (sym c.deref.ensures.value) (taken-within c.self.inside.entries.items c.self.inside.lines.items c.self.invariant.by_line c.args.line)
+    subst Within (sym c.deref.ensures.value) (taken-within c.self.inside.entries.items c.self.inside.lines.items c.self.invariant.now.by_line c.args.line)
 
 pub answer_of-requires-clause-waiting : goal.answer_of-requires-clause-waiting
 answer_of-requires-clause-waiting c =
@@ -21,10 +21,10 @@ answer_of-requires-clause-waiting c =
     let places = c.waiting_at-waiting.ensures ∙ ap (λ (lines : List Line). drop (taken_in lines c.args.line) (places_in lines c.args.line)) c.deref.ensures.value in
     subst At (sym c.deref-2.ensures.value)
     (subst (λ l. AreAt c.self.inside.entries.items l (filter (is_waiting_on c.args.line) c.self.inside.entries.items)) (sym places)
-    (finds-waiting c.self.inside.entries.items c.self.inside.lines.items c.self.invariant.by_line c.args.line))
+    (finds-waiting c.self.inside.entries.items c.self.inside.lines.items c.self.invariant.now.by_line c.args.line))
 
 pub answer_of-requires-clause-within : goal.answer_of-requires-clause-within
-answer_of-requires-clause-within c = omega (arith, c.deref-2.ensures.len, first-within is_waiting c.self.inside.entries.items, c.self.invariant.firsts.now)
+answer_of-requires-clause-within c = omega (arith, c.deref-2.ensures.len, first-within is_waiting c.self.inside.entries.items, c.self.invariant.now.firsts.now)
 
 pub returns : goal.returns
 returns c =

@@ -3,6 +3,8 @@ use Rattle.dt_csr.specs.declared.modes.TheConstants.{MACHINE}
 use Rattle.dt_csr.specs.declared.mstatus.TheConstants.{MPP, MPRV, SUM, MXR}
 use Rattle.dt_csr.specs.declared.satp.TheConstants.{PPN, MODE, SV39, SV48}
 use Rattle.dt_csr.specs.Fields.{field_of}
+use Rattle.dt_step.specs.declared.plans.AtomicOp.{AtomicOp}
+use Rattle.dt_step.specs.declared.plans.AtomicOp.TheVariants.{Lr, Sc, Amo}
 use Rattle.dt_step.specs.declared.state.Arch.{Arch}
 use Rattle.dt_walk.specs.declared.arguments.Access.{Access}
 use Rattle.dt_walk.specs.declared.arguments.Access.TheVariants.{Fetch, Load, Store}
@@ -42,3 +44,9 @@ walk_args a access va = record {
   sum = field_of a.csrs.mstatus SUM == 1;
   mxr = field_of a.csrs.mstatus MXR == 1;
 }
+
+-- what an atomic's address is translated for: to load there by an LR, to store there by any other (Volume II, section 4.3.1)
+abbrev pub atomic_access : AtomicOp → Access
+atomic_access Lr = Load
+atomic_access Sc = Store
+atomic_access (Amo op) = Store

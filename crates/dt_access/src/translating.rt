@@ -2,10 +2,10 @@ ghost use Rattle.std.specs.Prelude.{◌≡◌};
 ghost use Rattle.dt_csr.specs.Modes.{IsMode};
 ghost use Rattle.dt_step.specs.State.{IsArch};
 ghost use Rattle.dt_walk.specs.Walk.{CanWalk};
-ghost use Rattle.dt_checks.specs.Translating.{data_mode, effective_mode, is_translated, levels_of, walk_args};
+ghost use Rattle.dt_access.specs.Translating.{atomic_access, data_mode, effective_mode, is_translated, levels_of, walk_args};
 
 use dt_csr::{MACHINE, mstatus, satp};
-use dt_step::Arch;
+use dt_step::{Arch, AtomicOp};
 use dt_walk::{Access, WalkArgs};
 
 /// The bytes of a page and of a page table.
@@ -54,8 +54,18 @@ fn levels_of(a: &Arch) -> u8
     }
 }
 
-/// How a virtual address is translated for an access in this state. LR is a load; SC and the atomic
-/// memory operations are stores.
+/// What the address of an atomic is translated for: LR is a load; SC and the atomic memory operations
+/// are stores.
+pub fn atomic_access(op: AtomicOp) -> Access
+    ensures { result ≡ atomic_access op }
+{
+    match op {
+        AtomicOp::Lr => Access::Load,
+        AtomicOp::Sc | AtomicOp::Amo(_) => Access::Store,
+    }
+}
+
+/// How a virtual address is translated for an access in this state.
 pub fn walk_args(a: &Arch, access: Access, va: u64) -> WalkArgs
     requires { IsArch a.now }
     ensures value { result ≡ walk_args a.now access va }

@@ -8,7 +8,7 @@ use Rattle.dt_step.specs.declared.state.Arch.{Arch}
 use Rattle.dt_step.specs.Causes.{due_cause, unless}
 use Rattle.dt_step.specs.Plans.{legal_plan}
 use Rattle.dt_step.specs.State.{register}
-use Rattle.dt_checks.specs.Retiring.{AccessesAligned}
+use Rattle.dt_step.specs.Alignment.{AccessesAligned}
 
 unless-none : (ok : Bool) (cause : ℕ) → unless ok cause ≡ None → ok ≡ true
 unless-none true cause none = refl
