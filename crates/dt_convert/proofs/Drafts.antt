@@ -13,7 +13,7 @@ use Rattle.dt_record.specs.ProbeFile.{header_bytes, records_bytes, no_stamps, st
 use Rattle.dt_record.specs.Streams.{Progress, IsFresh, TakesHeader, TakesRecord, TakesAnswer}
 use Rattle.dt_dump.specs.Dump.{records_in}
 use Rattle.dt_dump.specs.Reading.{HasCome, HasTold}
-use Rattle.dt_dump.specs.ReadingLaws.{come_first, come_header, come_record, came_last, tells_first, tells_header, tells_record, behind_header}
+use Rattle.dt_dump.proofs.ReadingLaws.{come_first, come_header, come_record, came_last, tells_first, tells_header, tells_record, behind_header}
 use Rattle.dt_convert.specs.Convert.{file_bytes, file_with}
 use Rattle.dt_convert.specs.Reading.{IsFileOf, StopsAt}
 

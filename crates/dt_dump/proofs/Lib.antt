@@ -1,3 +1,4 @@
-pub mod Underway
-pub mod Texts
 pub mod Endings
+pub mod ReadingLaws
+pub mod Texts
+pub mod Underway

@@ -15,7 +15,7 @@ use Rattle.dt_record.specs.Streams.{Progress, IsFresh, TakesHeader, TakesRecord,
 use Rattle.dt_text.specs.Line.{line_text}
 use Rattle.dt_dump.specs.Dump.{lines_after, record_lines, records_in}
 use Rattle.dt_dump.specs.Reading.{HasCome, HasTold, IsLast, CameTo, remaining}
-use Rattle.dt_dump.specs.ReadingLaws.{come_first, come_header, come_record, came_last, tells_first, tells_header, tells_record, behind_header, hart_fits}
+use Rattle.dt_dump.proofs.ReadingLaws.{come_first, come_header, come_record, came_last, tells_first, tells_header, tells_record, behind_header, hart_fits}
 use Rattle.dt_dump.proofs.Texts.{Appends-append, record_lines-more}
 
 -- each hart's number of records

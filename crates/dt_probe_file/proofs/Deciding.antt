@@ -12,14 +12,14 @@ use Rattle.dt_record.specs.Answers.{Reading, GoesOn}
 use Rattle.dt_record_bytes.specs.declared.decoded.Decoded.{Decoded}
 use Rattle.dt_record_bytes.specs.declared.decoded.Decoded.TheVariants as answers
 use Rattle.dt_short_bytes.specs.ShortForms.{StartsWith, IsGot, IsUnfinished}
-use Rattle.dt_record_bytes.specs.SpellingLaws.{length-double, double_at_front, doubles_are_one}
-use Rattle.dt_probe_file.specs.HeaderFields.{get_or_behind}
+use Rattle.dt_record_bytes.proofs.SpellingLaws.{length-double, double_at_front, doubles_are_one}
+use Rattle.dt_probe_file.proofs.HeaderFields.{get_or_behind}
 use Rattle.dt_probe_file.specs.declared.fronts.Front.{Front}
 use Rattle.dt_probe_file.specs.declared.fronts.Front.TheVariants as fronts
 use Rattle.dt_probe_file.specs.Fronts.{IsRead, LacksRecord, IsDecoded, IsFront, IsEndFront, HasTag}
-use Rattle.dt_probe_file.specs.Proposed.{second_of, read_of_next}
+use Rattle.dt_probe_file.proofs.Proposed.{second_of, read_of_next}
 use Rattle.dt_probe_file.proofs.OneAnswer.{record_has_no_end_tag}
-use Rattle.dt_probe_file.specs.Exists.{next_of_read, none_may, length-end, spelled_is_long}
+use Rattle.dt_probe_file.proofs.Exists.{next_of_read, none_may, length-end, spelled_is_long}
 
 -- Version 2, whose answer is for one last stamp.
 

@@ -12,7 +12,7 @@ use Rattle.dt_record.specs.declared.spellings.Version.TheVariants.{One, Two}
 use Rattle.dt_probe_file.specs.declared.headers.Heading.TheVariants.{Whole, Begun, Wrong}
 use Rattle.dt_record.specs.Versions.{version_of}
 use Rattle.dt_probe_file.specs.Headers.{IsHeading, header_byte, field_start, plain_header}
-use Rattle.dt_probe_file.specs.HeaderFields.{AreRight, IsHeader, fault_at, no_fault, header_of, get_or_behind}
+use Rattle.dt_probe_file.proofs.HeaderFields.{AreRight, IsHeader, fault_at, no_fault, header_of, get_or_behind}
 
 abbrev pub FollowsByte : Version → ℕ → Type 0
 FollowsByte One b = b ≡ 1

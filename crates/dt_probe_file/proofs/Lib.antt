@@ -1,8 +1,11 @@
 pub mod AskingFor
 pub mod Deciding
+pub mod Exists
 pub mod Files
+pub mod HeaderFields
 pub mod Heading
 pub mod HeldParts
 pub mod OneAnswer
+pub mod Proposed
 pub mod Stepping
 pub mod Telling

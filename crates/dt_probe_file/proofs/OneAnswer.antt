@@ -11,8 +11,8 @@ use Rattle.dt_record.specs.declared.streams.Next.TheVariants.{Header, Event, End
 use Rattle.dt_record.specs.Tags.{tag_number}
 use Rattle.dt_record.specs.Spelling.{Version, One, Two, wide_bytes, short_bytes, record_bytes, end_bytes, double}
 use Rattle.dt_record.specs.Answers.{Reading, after_record, GoesOn, HasRoom, IsMalformed, IsTooMany, IsLimit, opened, header_fault, AreAnswersAfter, AreOpened, AreAnswers}
-use Rattle.dt_probe_file.specs.Proposed.{goes_one}
-use Rattle.dt_probe_file.specs.HeaderFields.{headers_are_one, header_holds}
+use Rattle.dt_probe_file.proofs.Proposed.{goes_one}
+use Rattle.dt_probe_file.proofs.HeaderFields.{headers_are_one, header_holds}
 
 -- What stands at the front of bytes is one record or an end.
 

@@ -1,6 +1,5 @@
 -- Steps of the reader: what an answer takes of those that are left, and what it tells.
 use Rattle.std.proofs.Common.{◌≡◌, ℕ, ◌+◌, ◌<◌, ◌≤◌, inl, inr, Bool, List, [], ◌∷◌, ◌++◌, length, drop, Option, Some, None, IfSome, refl, sym, ap, ◌∙◌, subst, append_assoc, arith}
-use Rattle.std.specs.Option.{option_map}
 use Rattle.std.proofs.lemmas.List.{append-nil}
 use Rattle.dt_record.specs.declared.records.Record.{Record}
 use Rattle.dt_record.specs.declared.writes.What.{What}
@@ -18,8 +17,12 @@ use Rattle.dt_record.specs.Versions.{version_of}
 use Rattle.dt_probe_file.specs.Fronts.{reading_of, first_too_many, IsFront}
 use Rattle.dt_probe_file.specs.Headers.{IsHeading}
 use Rattle.dt_probe_file.specs.Parts.{whole}
-use Rattle.dt_probe_file.specs.Told.{answers_of, answers_after, ended_by, left_of, Takes, progress_of, AreToldOf}
-use Rattle.dt_probe_file.proofs.Telling.{tell_event, tell_end, tell_malformed, tell_limit, tell_header, tell_fault, of_are}
+use Rattle.dt_probe_file.specs.Progress.{ended_by, progress_of}
+use Rattle.dt_probe_file.specs.Told.{AreToldOf}
+use Rattle.dt_probe_file.specs.Computing.{answers_of, answers_after}
+use Rattle.dt_probe_file.specs.Left.{left_of, Takes}
+use Rattle.dt_probe_file.proofs.Exists.{of_are}
+use Rattle.dt_probe_file.proofs.Telling.{tell_event, tell_end, tell_malformed, tell_limit, tell_header, tell_fault}
 
 goes_further : (s : Reading) (held : List ℕ) (r : Record) (len : ℕ) (rest : List ℕ) → IsFront s held (fronts.Event r len) → GoesOn s (held ++ rest) r (drop len held ++ rest)
 goes_further s held r len rest front = record {
@@ -134,6 +137,6 @@ takes_header o harts wide v some few is harts_are wide_is = record {
 }
 
 -- a new stream tells the answers of all bytes
-pub told_fresh : (left : Option (List ℕ)) (told : Option (List Next)) → told ≡ option_map answers_of left → AreToldOf left told
-told_fresh None told is = is
-told_fresh (Some bytes) told is = (answers_of bytes, is, of_are bytes)
+pub told_fresh : (held : List ℕ) (left : Option (List ℕ)) → held ≡ [] → AreToldOf left (left_of None None (whole held left))
+told_fresh held None none = refl
+told_fresh held (Some bytes) none = (answers_of bytes, ap (λ (z : List ℕ). Some (answers_of (z ++ bytes))) none, of_are bytes)

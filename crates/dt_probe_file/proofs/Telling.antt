@@ -5,18 +5,10 @@ use Rattle.dt_record.specs.declared.writes.What.{What}
 use Rattle.dt_record.specs.declared.streams.Next.TheVariants.{Header, Event, End, Malformed, Limit}
 use Rattle.dt_record.specs.Spelling.{Version, end_bytes}
 use Rattle.dt_record.specs.ProbeFile.{header_bytes}
-use Rattle.dt_record.specs.Answers.{Reading, opened, header_fault, after_record, GoesOn, HasRoom, IsMalformed, IsLimit, AreAnswersAfter, AreAnswers}
-use Rattle.dt_probe_file.specs.Told.{answers_of, answers_after}
-use Rattle.dt_probe_file.specs.Exists.{told_of, told_after}
+use Rattle.dt_record.specs.Answers.{Reading, opened, header_fault, after_record, GoesOn, HasRoom, IsMalformed, IsLimit}
+use Rattle.dt_probe_file.specs.Computing.{answers_of, answers_after}
+use Rattle.dt_probe_file.proofs.Exists.{after_are, of_are}
 use Rattle.dt_probe_file.proofs.OneAnswer.{after_is_one, answers_are_one}
-
-pub after_are : (s : Reading) (bytes : List ℕ) → AreAnswersAfter s bytes (answers_after s bytes)
-unfolding answers_after
-after_are s bytes = (told_after s bytes).1
-
-pub of_are : (bytes : List ℕ) → AreAnswers bytes (answers_of bytes)
-unfolding answers_of
-of_are bytes = (told_of bytes).1
 
 pub tell_event : (s : Reading) (bytes : List ℕ) (r : Record) (rest : List ℕ) → GoesOn s bytes r rest → HasRoom s r → answers_after s bytes ≡ Event r ∷ answers_after (after_record s r) rest
 tell_event s bytes r rest goes room =

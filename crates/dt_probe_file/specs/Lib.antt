@@ -1,10 +1,10 @@
 pub mod Asking
-pub mod Exists
+pub mod Computing
 pub mod FileStream
 pub mod Found
 pub mod Fronts
-pub mod HeaderFields
 pub mod Headers
+pub mod Left
 pub mod Parts
-pub mod Proposed
+pub mod Progress
 pub mod Told

@@ -6,11 +6,10 @@ ghost use Rattle.dt_record.specs.declared.streams.Next.TheVariants.{Header, Even
 ghost use Rattle.dt_record.specs.Spelling.{Version};
 ghost use Rattle.dt_record.specs.ProbeFile.{IsProbeFile};
 ghost use Rattle.dt_record.specs.Answers.{AreAnswers};
-ghost use Rattle.dt_probe_file.specs.Told.{answers_of};
 
 /// A law: bytes give exactly one list of answers, whatever they are.
 pub fn one_list()
-    ensures some { (bytes : List ℕ) → AreAnswers bytes (answers_of bytes) }
+    ensures some { (bytes : List ℕ) → (answers : List Next) × AreAnswers bytes answers }
     ensures one { (bytes : List ℕ) (answers others : List Next)
         → AreAnswers bytes answers → AreAnswers bytes others → answers ≡ others }
 {}

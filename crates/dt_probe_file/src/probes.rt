@@ -1,11 +1,13 @@
-ghost use Rattle.std.specs.Prelude.{◌≡◌, ◌≢◌, ◌≤◌, ◌↔◌, None, [], option_map, IfOk, IsTrue, IsSome, IsNone};
+ghost use Rattle.std.specs.Prelude.{◌≡◌, ◌≢◌, ◌≤◌, ◌↔◌, None, [], IfOk, IsTrue, IsSome, IsNone};
 ghost use Rattle.std.specs.Option.{ForSome};
 ghost use Rattle.dt_record.specs.Streams.{Continues, TakesAnswer, Rose, IsFresh};
 ghost use Rattle.dt_record.specs.declared.streams.Next.{Next};
 ghost use Rattle.dt_probe_file.specs.Asking.{HadToRead};
 ghost use Rattle.dt_probe_file.specs.Fronts.{IsSound};
 ghost use Rattle.dt_probe_file.specs.Parts.{whole};
-ghost use Rattle.dt_probe_file.specs.Told.{AreToldOf, answers_of, ended_by, left_of, progress_of};
+ghost use Rattle.dt_probe_file.specs.Progress.{ended_by, progress_of};
+ghost use Rattle.dt_probe_file.specs.Told.{AreToldOf};
+ghost use Rattle.dt_probe_file.specs.Left.{left_of};
 
 use crate::holding::Held;
 use crate::reading::Opened;
@@ -68,7 +70,7 @@ impl<S: Source + Drop> FileProbes<S> {
     /// refused once the source is given away.
     pub fn within(room: Room, source: S) -> FileProbes<S>
         ensures fresh { IsFresh (⟦<FileProbes<S> as Probes>⟧.progress result) }
-        ensures told { ⟦<FileProbes<S> as Probes>⟧.left result ≡ option_map answers_of (S.left source) }
+        ensures told { AreToldOf (S.left source) (⟦<FileProbes<S> as Probes>⟧.left result) }
         ensures faults { ⟦<FileProbes<S> as Probes>⟧.faults result ≡ S.faults source }
         ensures same_lent { ⟦<FileProbes<S> as Probes>⟧.lent result ≡ S.lent source }
     {

@@ -5,7 +5,8 @@ ghost use Rattle.dt_probe_file.specs.Asking.{HadToRead};
 ghost use Rattle.dt_probe_file.specs.declared.fronts.Front.TheVariants as fronts;
 ghost use Rattle.dt_probe_file.specs.Fronts.{IsSound, IsFront, reading_of};
 ghost use Rattle.dt_probe_file.specs.Parts.{whole};
-ghost use Rattle.dt_probe_file.specs.Told.{Takes, ended_by, progress_of};
+ghost use Rattle.dt_probe_file.specs.Progress.{ended_by, progress_of};
+ghost use Rattle.dt_probe_file.specs.Left.{Takes};
 
 use crate::finding::{Found, Heard, find, hear};
 use crate::fronts::END_LEN;

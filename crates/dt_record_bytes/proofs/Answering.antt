@@ -9,9 +9,10 @@ use Rattle.dt_record.specs.Spelling.{double, wide_bytes, end_bytes}
 use Rattle.dt_record_bytes.specs.declared.decoded.Decoded.{Decoded}
 use Rattle.dt_record_bytes.specs.declared.decoded.Decoded.TheVariants.{Got, Short, Bad}
 use Rattle.dt_record_bytes.specs.WideAnswer.{IsSpelled, LacksRecord, wide_length, HasKind, IsCut, body_bytes_with, wide_bytes_with, HasFields, bounds_with, first_broken, HasNoKind, IsBroken, IsWideAnswer}
-use Rattle.dt_record_bytes.specs.SpellingLaws.{doubles_are_one}
-use Rattle.dt_record_bytes.specs.Apart.{Whole, whole, fields_are_one}
-use Rattle.dt_record_bytes.specs.Bounds.{wrote_byte_of, wrote_byte_is, same_bytes, lawful_of_unbroken, unbroken_of_lawful, byte_of_unbroken}
+use Rattle.dt_record_bytes.proofs.SpellingLaws.{doubles_are_one}
+use Rattle.dt_record_bytes.specs.WideReading.{Whole, whole}
+use Rattle.dt_record_bytes.proofs.Apart.{fields_are_one}
+use Rattle.dt_record_bytes.proofs.Bounds.{wrote_byte_of, wrote_byte_is, same_bytes, lawful_of_unbroken, unbroken_of_lawful, byte_of_unbroken}
 use Rattle.dt_record_bytes.proofs.Lengths.{wide_length_is, usual_length}
 
 -- the first two bytes, and the others

@@ -6,8 +6,8 @@ use Rattle.std.proofs.lemmas.Nat.{le_bytes_2, le_bytes_4}
 use Rattle.std.proofs.lemmas.List.{take-append-drop, length-append, length-take}
 use Rattle.dt_record.specs.Lawful.{FitsList}
 use Rattle.dt_record.specs.Spelling.{half, word, double}
-use Rattle.dt_record_bytes.specs.SpellingLaws.{length-double, each_of_front}
-use Rattle.dt_record_bytes.specs.SpellingLaws as laws
+use Rattle.dt_record_bytes.proofs.SpellingLaws.{length-double, each_of_front}
+use Rattle.dt_record_bytes.proofs.SpellingLaws as laws
 
 pub length-half : (n : ℕ) → length (half n) ≡ 2
 unfolding half

@@ -10,7 +10,7 @@ use Rattle.dt_record.specs.Lawful.{FitsBody, FitsRecord}
 use Rattle.dt_record.specs.Tags.{tag_number}
 use Rattle.dt_record.specs.Spelling.{half, word, double}
 use Rattle.dt_record_bytes.specs.WideAnswer.{wide_length, body_bytes_with, wide_bytes_with}
-use Rattle.dt_record_bytes.specs.SpellingLaws.{length-double}
+use Rattle.dt_record_bytes.proofs.SpellingLaws.{length-double}
 use Rattle.dt_record_bytes.proofs.Fields.{length-half, length-doubles}
 
 abbrev of_length : ℕ → Option ℕ

@@ -1,5 +1,2 @@
-pub mod Apart
-pub mod Bounds
-pub mod SpellingLaws
 pub mod WideAnswer
-pub mod WideProposing
+pub mod WideReading

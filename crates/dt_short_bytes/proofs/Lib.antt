@@ -1,4 +1,14 @@
+pub mod ShortAnswers
+pub mod ShortBytes
+pub mod ShortChain
 pub mod ShortFields
+pub mod ShortGrammar
 pub mod ShortLengths
+pub mod ShortLists
 pub mod ShortPresence
+pub mod ShortProposing
+pub mod ShortRecords
+pub mod ShortSpread
 pub mod ShortSteps
+pub mod ShortTexts
+pub mod ShortVarint

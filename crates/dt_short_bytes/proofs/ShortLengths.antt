@@ -11,11 +11,11 @@ use Rattle.dt_record.specs.declared.kinds.Kind.{Kind}
 use Rattle.dt_record.specs.declared.kinds.Kind.TheVariants as kinds
 use Rattle.dt_short_bytes.specs.ShortForms.{field_count, line_count, Form, form_bytes, FitsForm, IsUnfinished, MayFollow, StartsWith, IsGot, IsBad}
 use Rattle.dt_short_bytes.specs.ShortReading.{record_at, decoded_at}
-use Rattle.dt_short_bytes.specs.ShortGrammar.{IsBytes}
-use Rattle.dt_short_bytes.specs.ShortTexts.{low_bytes}
-use Rattle.dt_short_bytes.specs.ShortChain.{Read-free, read_of_form, groups, presence_spelled}
-use Rattle.dt_short_bytes.specs.ShortRecords.{form_of, spelling_is, form_fits, record_again}
-use Rattle.dt_short_bytes.specs.ShortAnswers.{got_back, form_text}
+use Rattle.dt_short_bytes.proofs.ShortGrammar.{IsBytes}
+use Rattle.dt_short_bytes.proofs.ShortTexts.{low_bytes}
+use Rattle.dt_short_bytes.proofs.ShortChain.{Read-free, read_of_form, groups, presence_spelled}
+use Rattle.dt_short_bytes.proofs.ShortRecords.{form_of, spelling_is, form_fits, record_again}
+use Rattle.dt_short_bytes.proofs.ShortAnswers.{got_back, form_text}
 
 within_cases_long : (more n : ℕ) (others : List ℕ) → 1 ≤ length others → length others ≤ suc more → (t : Bool) → (1 ≤ length (cond t (n ∷ []) ((128 + n % 128) ∷ others))) × (length (cond t (n ∷ []) ((128 + n % 128) ∷ others)) ≤ suc (suc more))
 within_cases_long more n others some few true = (omega arith, omega arith)

@@ -8,7 +8,7 @@ use Rattle.dt_record.specs.Spelling.{varint, varint_within}
 use Rattle.dt_short_bytes.specs.declared.short_pieces.Stop.{Stop}
 use Rattle.dt_short_bytes.specs.declared.short_pieces.Stop.TheVariants.{Short, Bad}
 use Rattle.dt_short_bytes.specs.ShortReading.{◌>>=◌, is_wrong_group, groups_at, presence_at}
-use Rattle.dt_short_bytes.specs.ShortVarint.{wider}
+use Rattle.dt_short_bytes.proofs.ShortVarint.{wider}
 
 abbrev pub behind_first : List ℕ → List ℕ
 behind_first xs = take (length xs - 1) (drop 1 xs)

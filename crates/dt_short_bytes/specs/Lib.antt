@@ -1,13 +1,4 @@
-pub mod ShortAnswers
-pub mod ShortBytes
-pub mod ShortChain
 pub mod ShortForms
-pub mod ShortGrammar
-pub mod ShortLists
+pub mod ShortFronts
 pub mod ShortPieces
-pub mod ShortProposing
 pub mod ShortReading
-pub mod ShortRecords
-pub mod ShortSpread
-pub mod ShortTexts
-pub mod ShortVarint

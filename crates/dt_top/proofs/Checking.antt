@@ -1,6 +1,5 @@
 -- What the answers of a probe file say of its check.
 use Rattle.std.proofs.Common.{◌≡◌, ◌≢◌, ℕ, Bool, List, [], ◌∷◌, ◌++◌, map, length, Option, Some, None, IfSome, refl, sym, ap, ◌∙◌, subst}
-use Rattle.std.specs.Option.{option_map}
 use Rattle.std.specs.String.{string_bytes}
 use Rattle.dt_source.specs.Faults.{Rose}
 use Rattle.dt_record.specs.declared.records.Record.{Record}
@@ -8,7 +7,7 @@ use Rattle.dt_record.specs.declared.streams.Next.{Next}
 use Rattle.dt_record.specs.declared.streams.Next.TheVariants.{Event, End}
 use Rattle.dt_record.specs.Answers.{Reading, AreAnswers, AreAnswersAfter, after_record}
 use Rattle.dt_record.specs.Streams.{Progress}
-use Rattle.dt_probe_file.specs.Told.{answers_of}
+use Rattle.dt_probe_file.specs.Told.{AreToldOf}
 use Rattle.dt_verdict.specs.declared.answers.Checked.{Checked}
 use Rattle.dt_verdict.specs.declared.answers.Refusal.{Refusal}
 use Rattle.dt_verdict.specs.declared.answers.Refusal.TheVariants as refusal
@@ -17,9 +16,8 @@ use Rattle.dt_pass.specs.Reading.{first_answers, refusal_in}
 use Rattle.dt_report.specs.Report.{report_text}
 use Rattle.dt_top.specs.declared.replies.Reply.{Reply}
 use Rattle.dt_top.specs.declared.replies.Reply.TheVariants.{Usage, TooLong, ReadFaultImage, Refused, Report, OutOfMemory}
-use Rattle.dt_top.specs.Answer.{answer, refusal_line, refusal_of, verdict_status, IsReport}
+use Rattle.dt_top.specs.Answer.{answer, refusal_line, verdict_status, IsRefused, IsReport}
 use Rattle.dt_top.specs.Replies.{IsPassReply, IsRefusalReply, IsReportReply}
-use Rattle.dt_top.proofs.Tasks.{of_bytes}
 
 -- ---- the answers
 
@@ -27,56 +25,52 @@ behind_end : (s : Reading) (bytes : List ℕ) (records : List Record) (count : �
 behind_end s bytes [] count more are = are.0
 behind_end s bytes (r ∷ rs) count more are = behind_end (after_record s r) are.0 rs count more are.3
 
--- no answer comes behind the end of a file
-nothing_behind : ((bytes : List ℕ) → AreAnswers bytes (answers_of bytes)) → (b : List ℕ) (harts : ℕ) (wide : Bool) (records : List Record) (count : ℕ) (more : List Next)
-    → answers_of b ≡ first_answers harts wide records ++ End count ∷ more → more ≡ []
-nothing_behind are b harts wide records count more same =
-    let opened = subst (λ (answers : List Next). AreAnswers b answers) same (are b) in
-    behind_end _ opened.1.rest records count more opened.1.after
-
-not_refused : (records : List Record) (count : ℕ) (more : List Next) → refusal_in (map (λ r. Event r) records ++ End count ∷ more) ≡ None
+pub not_refused : (records : List Record) (count : ℕ) (more : List Next) → refusal_in (map (λ r. Event r) records ++ End count ∷ more) ≡ None
 not_refused [] count more = refl
 not_refused (r ∷ rs) count more = not_refused rs count more
 
 -- ---- the reply
 
-report_said : ((bytes : List ℕ) → AreAnswers bytes (answers_of bytes)) → (image : List ℕ) (sources : Bool) (probes : Option (List ℕ)) (progress : Progress) (checked : Checked) (v : _) (text : List ℕ)
-    → IsCheckOf image (option_map answers_of probes) progress checked → v ≡ checked.verdict → text ≡ report_text checked sources
-    → IfSome probes (λ b. (refusal_of b ≡ None) × IsReport image b sources (answer (verdict_status v) text))
-report_said are image sources None progress checked v text check verdict written = tt
-report_said are image sources (Some b) progress checked v text check verdict written =
-    let came = check.came in
-    let more = came.answers.0 in
-    let same = came.answers.1 in
-    let ended = nothing_behind are b check.harts check.wide check.records _ more same in
-    let none : refusal_in (first_answers check.harts check.wide check.records ++ End (length check.records) ∷ more) ≡ None
-    = not_refused check.records (length check.records) more in (
-      ap refusal_in same ∙ none,
-      record {
-        harts = check.harts;
-        wide = check.wide;
-        records = check.records;
-        file = same ∙ ap (λ (rest : List Next). first_answers check.harts check.wide check.records ++ End (length check.records) ∷ rest) ended;
-        checked = checked;
-        is_checked = check.is_checked;
-        reported = ap (λ w. answer (verdict_status w) text) verdict ∙ ap (λ t. answer (verdict_status checked.verdict) t) written;
-      },
-    )
+report_said : (image : List ℕ) (sources : Bool) (probes : Option (List ℕ)) (told : Option (List Next)) (progress : Progress) (checked : Checked) (v : _) (text : List ℕ)
+    → AreToldOf probes told → IsCheckOf image told progress checked → v ≡ checked.verdict → text ≡ report_text checked sources
+    → IfSome probes (λ b. IsReport image b sources (answer (verdict_status v) text))
+report_said image sources None told progress checked v text tells check verdict written = tt
+report_said image sources (Some b) told progress checked v text tells check verdict written =
+    let known = subst (λ (t : Option (List Next)). IsCheckOf image t progress checked) tells.1 check in
+    let more = known.came.answers.0 in
+    let opened = subst (λ (answers : List Next). AreAnswers b answers) known.came.answers.1 tells.2 in
+    let ended = behind_end _ opened.1.rest known.records _ more opened.1.after in
+    record {
+      harts = known.harts;
+      wide = known.wide;
+      records = known.records;
+      file = subst (λ (rest : List Next). AreAnswers b (first_answers known.harts known.wide known.records ++ End (length known.records) ∷ rest)) ended opened;
+      checked = checked;
+      is_checked = known.is_checked;
+      reported = ap (λ w. answer (verdict_status w) text) verdict ∙ ap (λ t. answer (verdict_status checked.verdict) t) written;
+    }
 
-pub checked_said : ((bytes : List ℕ) → AreAnswers bytes (answers_of bytes)) → (image : List ℕ) (sources : Bool) (probes : Option (List ℕ)) (probes_old probes_new : ℕ)
-    (told : Option (List Next)) (progress : Progress) (checked : Checked) (reply : Reply) → told ≡ option_map answers_of probes
+pub checked_said : (image : List ℕ) (sources : Bool) (probes : Option (List ℕ)) (probes_old probes_new : ℕ)
+    (told : Option (List Next)) (progress : Progress) (checked : Checked) (reply : Reply) → AreToldOf probes told
     → IsCheckOf image told progress checked → IsReportReply checked sources reply → IsPassReply image sources probes probes_old probes_new reply
-checked_said are image sources probes _ _ told progress checked Usage tells check is = is
-checked_said are image sources probes _ _ told progress checked TooLong tells check is = is
-checked_said are image sources probes _ _ told progress checked ReadFaultImage tells check is = is
-checked_said are image sources probes _ _ told progress checked (Refused r line) tells check is = absurd is
-checked_said are image sources probes _ _ told progress checked (Report v text) tells check is =
-    report_said are image sources probes progress checked v text (subst (λ (t : Option (List Next)). IsCheckOf image t progress checked) tells check) is.0 is.1
-checked_said are image sources probes _ _ told progress checked OutOfMemory tells check is = tt
+checked_said image sources probes _ _ told progress checked Usage tells check is = is
+checked_said image sources probes _ _ told progress checked TooLong tells check is = is
+checked_said image sources probes _ _ told progress checked ReadFaultImage tells check is = is
+checked_said image sources probes _ _ told progress checked (Refused r line) tells check is = absurd is
+checked_said image sources probes _ _ told progress checked (Report v text) tells check is =
+    report_said image sources probes told progress checked v text tells check is.0 is.1
+checked_said image sources probes _ _ told progress checked OutOfMemory tells check is = tt
+
+-- a refusal of the answers is one of the bytes
+refused_bytes : (probes : Option (List ℕ)) (told : Option (List Next)) (r : Refusal) → AreToldOf probes told → IfSome told (λ answers. refusal_in answers ≡ Some r)
+    → IfSome probes (λ b. IsRefused b r)
+refused_bytes None told r tells known = tt
+refused_bytes (Some b) told r tells known =
+    (tells.0, tells.2, subst (λ (t : Option (List Next)). IfSome t (λ answers. refusal_in answers ≡ Some r)) tells.1 known)
 
 -- the counts of the stream are those of the source, which was lent before and was given back after
 pub refused_said : (image : List ℕ) (sources : Bool) (probes : Option (List ℕ)) (probes_old probes_new own_old own_new : ℕ)
-    (told : Option (List Next)) (r : Refusal) (reply : Reply) → told ≡ option_map answers_of probes → own_old ≡ probes_old
+    (told : Option (List Next)) (r : Refusal) (reply : Reply) → AreToldOf probes told → own_old ≡ probes_old
     → (r ≢ refusal.ReadFault → r ≢ refusal.OutOfMemory → IfSome told (λ answers. refusal_in answers ≡ Some r))
     → (r ≡ refusal.ReadFault → Rose own_old own_new) → probes_new ≡ own_new
     → IsRefusalReply r reply → IsPassReply image sources probes probes_old probes_new reply
@@ -85,11 +79,10 @@ refused_said image sources probes probes_old probes_new own_old own_new told r T
 refused_said image sources probes probes_old probes_new own_old own_new told r ReadFaultImage tells first known fault last is = is
 refused_said image sources probes probes_old probes_new own_old own_new told r (Refused named line) tells first known fault last is =
     subst (λ (x : Refusal). (string_bytes line ≡ refusal_line x) × (x ≡ refusal.ReadFault → Rose probes_old probes_new)
-    × (x ≢ refusal.ReadFault → x ≢ refusal.OutOfMemory → IfSome probes (λ b. refusal_of b ≡ Some x))) (sym is.0) (
+    × (x ≢ refusal.ReadFault → x ≢ refusal.OutOfMemory → IfSome probes (λ b. IsRefused b x))) (sym is.0) (
       is.1,
       λ e. subst (λ (n : ℕ). Rose n probes_new) first (subst (λ (n : ℕ). Rose own_old n) (sym last) (fault e)),
-      λ read memory. of_bytes probes (λ answers. refusal_in answers ≡ Some r) (λ b. refusal_of b ≡ Some r)
-          (subst (λ (t : Option (List Next)). IfSome t (λ answers. refusal_in answers ≡ Some r)) tells (known read memory)) (λ b h. h),
+      λ read memory. refused_bytes probes told r tells (known read memory),
     )
 refused_said image sources probes probes_old probes_new own_old own_new told r (Report v text) tells first known fault last is = absurd is
 refused_said image sources probes probes_old probes_new own_old own_new told r OutOfMemory tells first known fault last is = tt

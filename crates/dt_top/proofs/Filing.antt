@@ -8,7 +8,10 @@ use Rattle.dt_record.specs.declared.writes.What.{What}
 use Rattle.dt_record.specs.declared.streams.Next.{Next}
 use Rattle.dt_record.specs.declared.streams.Next.TheVariants.{Header, Event, End, Malformed, Limit, ReadFault, OutOfMemory}
 use Rattle.dt_record.specs.Spelling.{Version}
-use Rattle.dt_probe_file.specs.Told.{answers_of}
+use Rattle.dt_probe_file.specs.Computing.{answers_of}
+use Rattle.dt_probe_file.specs.Told.{AreToldOf}
+use Rattle.dt_probe_file.proofs.Exists.{of_are}
+use Rattle.dt_probe_file.proofs.OneAnswer.{answers_are_one}
 use Rattle.dt_dump.specs.Dump.{AppendsPart, IsCutShort, dump_text, last_status, memory_line, read_fault_line, stream_status}
 use Rattle.dt_convert.specs.Convert.{converted}
 use Rattle.dt_verdict.specs.declared.answers.Refusal.{Refusal}
@@ -16,9 +19,9 @@ use Rattle.dt_verdict.specs.declared.answers.Refusal.TheVariants as refusal
 use Rattle.dt_words.specs.declared.commands.Task.TheVariants.{Pass, Dump, Convert}
 use Rattle.dt_words.specs.Table.{Asked}
 use Rattle.dt_pass.specs.Reading.{refusal_in}
-use Rattle.dt_top.specs.Answer.{answer, refusal_of, refusal_status, version_named, EndsAtLimit, EndsMalformed, IsAnswer, StopsWith, WhereTold}
+use Rattle.dt_top.specs.Answer.{answer, refusal_status, version_named, EndsAtLimit, EndsMalformed, IsAnswer, IsRefused, StopsWith, WhereTold}
 use Rattle.dt_top.specs.Running.{Ran}
-use Rattle.dt_top.proofs.Tasks.{not_dump, not_convert, dump_is_not_convert, either, of_bytes, where_dump, where_convert}
+use Rattle.dt_top.proofs.Tasks.{are_told, not_dump, not_convert, dump_is_not_convert, either, of_bytes, told_is, where_dump, where_convert}
 
 -- what the run of a stream says of itself, whatever its text is
 pub record Streamed (told : Option (List Next)) (last_answer : Option Next) (text_of : List Next → List ℕ) (cut : List ℕ → Option (List Next) → List ℕ → Type 0)
@@ -96,9 +99,10 @@ refused_end (ReadFault ∷ rest) r e = ap refusal_status (same_Some refusal.Read
 refused_end (OutOfMemory ∷ rest) r e = ap refusal_status (same_Some refusal.OutOfMemory r e)
 
 refused_told : (probes : Option (List ℕ)) (P : List Next → Type 0) (status : ℕ) (r : Refusal) → IfSome (option_map answers_of probes) (λ answers. (status ≡ stream_status answers) × P answers)
-    → IsSomeAnd probes (λ b. refusal_of b ≡ Some r) → status ≡ refusal_status r
+    → IsSomeAnd probes (λ b. IsRefused b r) → status ≡ refusal_status r
 refused_told None P status r told found = absurd found
-refused_told (Some b) P status r told found = told.0 ∙ refused_end (answers_of b) r found
+refused_told (Some b) P status r told found =
+    told.0 ∙ refused_end (answers_of b) r (ap refusal_in (answers_are_one b (answers_of b) found.0 (of_are b) found.1) ∙ found.2)
 
 -- ---- the run
 
@@ -118,12 +122,12 @@ ran_of_stream asked image probes image_old image_new probes_old probes_new out_o
   malformed = λ four. (
     refl,
     of_bytes probes (λ answers. (status ≡ stream_status answers) × Appends before (text_of answers) after) EndsMalformed (s.whole (λ e. cc) (λ e. cc) (λ e. cc))
-        (λ b h. malformed_end (answers_of b) (sym h.0 ∙ four)),
+        (λ b h. let m = malformed_end (answers_of b) (sym h.0 ∙ four) in (m.0, (answers_of b, of_are b, m.1))),
   );
   limit = λ eight. (
     refl,
     of_bytes probes (λ answers. (status ≡ stream_status answers) × Appends before (text_of answers) after) EndsAtLimit (s.whole (λ e. cc) (λ e. cc) (λ e. cc))
-        (λ b h. limit_end (answers_of b) (sym h.0 ∙ eight)),
+        (λ b h. let m = limit_end (answers_of b) (sym h.0 ∙ eight) in (m.0, m.1, (answers_of b, of_are b, m.2))),
   );
   refused_line = λ asks. absurd (task.is_no_check asks);
   refused_comes = λ r asks found three five six seven.
@@ -164,6 +168,8 @@ pub dump_task : (asked : Asked) (probes : Option (List ℕ)) → asked.task ≡ 
 dump_task asked probes is = record {
   is_no_check = λ pass. not_dump asked.task pass is;
   is_answer = λ i b status text a t. record {
+    answers = answers_of b;
+    are_answers = of_are b;
     usage = λ none. cc;
     too_long = λ other. absurd (not_dump asked.task other is);
     refused = λ r other. absurd (not_dump asked.task other is);
@@ -171,13 +177,15 @@ dump_task asked probes is = record {
     dump = λ _. same_answer status _ text _ a t;
     convert = λ to other. absurd (dump_is_not_convert asked.task is other.0);
   };
-  stops = λ line text h. inr (is, h);
+  stops = λ line text h. inr (is, (option_map answers_of probes, are_told probes, h));
 }
 
 pub convert_task : (asked : Asked) (probes : Option (List ℕ)) → asked.task ≡ Convert → IsFileTask asked probes (converted (version_named asked.to)) convert_cut
 convert_task asked probes is = record {
   is_no_check = λ pass. not_convert asked.task pass is;
   is_answer = λ i b status text a t. record {
+    answers = answers_of b;
+    are_answers = of_are b;
     usage = λ none. cc;
     too_long = λ other. absurd (not_convert asked.task other is);
     refused = λ r other. absurd (not_convert asked.task other is);
@@ -193,24 +201,24 @@ convert_task asked probes is = record {
 -- the counts of the stream are those of the source, which was lent before and was given back after
 pub dump_ran : (asked : Asked) (image probes : Option (List ℕ)) (image_old image_new probes_old probes_new own_old own_new out_old out_new : ℕ) (before after : Option (List ℕ)) (status : ℕ)
     (told : Option (List Next)) (last_answer : Option Next) → asked.task ≡ Dump
-    → told ≡ option_map answers_of probes → own_old ≡ probes_old
+    → AreToldOf probes told → own_old ≡ probes_old
     → Streamed told last_answer dump_text dump_cut own_old own_new out_old out_new before after status → probes_new ≡ own_new
     → Ran (Some asked) image probes image_old image_new probes_old probes_new out_old out_new before after status
 dump_ran asked image probes image_old image_new probes_old probes_new own_old own_new out_old out_new before after status told last_answer is answers first s last =
     ran_of_stream asked image probes image_old image_new probes_old probes_new out_old out_new before after status last_answer dump_text dump_cut (dump_task asked probes is) (λ P h. where_dump asked image probes P is h)
-    (subst (λ (t : Option (List Next)). Streamed t last_answer dump_text dump_cut probes_old probes_new out_old out_new before after status) answers
+    (subst (λ (t : Option (List Next)). Streamed t last_answer dump_text dump_cut probes_old probes_new out_old out_new before after status) (told_is probes told answers)
     (subst (λ (n : ℕ). Streamed told last_answer dump_text dump_cut n probes_new out_old out_new before after status) first
     (subst (λ (n : ℕ). Streamed told last_answer dump_text dump_cut own_old n out_old out_new before after status) (sym last) s)))
 
 pub convert_ran : (asked : Asked) (image probes : Option (List ℕ)) (image_old image_new probes_old probes_new own_old own_new out_old out_new : ℕ) (before after : Option (List ℕ)) (status : ℕ)
     (told : Option (List Next)) (last_answer : Option Next) (version : Version) → asked.task ≡ Convert → version ≡ version_named asked.to
-    → told ≡ option_map answers_of probes → own_old ≡ probes_old
+    → AreToldOf probes told → own_old ≡ probes_old
     → Streamed told last_answer (converted version) convert_cut own_old own_new out_old out_new before after status → probes_new ≡ own_new
     → Ran (Some asked) image probes image_old image_new probes_old probes_new out_old out_new before after status
 convert_ran asked image probes image_old image_new probes_old probes_new own_old own_new out_old out_new before after status told last_answer version is named answers first s last =
     ran_of_stream asked image probes image_old image_new probes_old probes_new out_old out_new before after status last_answer (converted (version_named asked.to)) convert_cut (convert_task asked probes is) (λ P h. where_convert asked image probes P is h)
     (subst (λ (v : Version). Streamed (option_map answers_of probes) last_answer (converted v) convert_cut probes_old probes_new out_old out_new before after status) named
-    (subst (λ (t : Option (List Next)). Streamed t last_answer (converted version) convert_cut probes_old probes_new out_old out_new before after status) answers
+    (subst (λ (t : Option (List Next)). Streamed t last_answer (converted version) convert_cut probes_old probes_new out_old out_new before after status) (told_is probes told answers)
     (subst (λ (n : ℕ). Streamed told last_answer (converted version) convert_cut n probes_new out_old out_new before after status) first
     (subst (λ (n : ℕ). Streamed told last_answer (converted version) convert_cut own_old n out_old out_new before after status) (sym last) s))))
 

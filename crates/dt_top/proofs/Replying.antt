@@ -1,5 +1,5 @@
 -- What a reply to words comes to.
-use Rattle.std.proofs.Common.{◌≡◌, ◌≢◌, ◌≤◌, ◌⊎◌, ℕ, Bool, List, length, Option, Some, None, Result, Ok, Err, IfSome, IsSome, IsSomeAnd, refl, sym, ap, ◌∙◌, subst, inl, inr, arith}
+use Rattle.std.proofs.Common.{◌≡◌, ◌≢◌, ◌≤◌, ◌⊎◌, ℕ, Bool, List, [], ◌∷◌, ◌++◌, length, Option, Some, None, Result, Ok, Err, IfSome, IsSome, IsSomeAnd, refl, sym, ap, ◌∙◌, subst, inl, inr, arith}
 use Rattle.std.specs.String.{string_bytes}
 use Rattle.std.specs.Prelude.{nat_le}
 use Rattle.std.proofs.lemmas.Bool.{cases_eq}
@@ -16,17 +16,25 @@ use Rattle.dt_verdict.specs.declared.verdicts.Verdict.{Verdict}
 use Rattle.dt_verdict.specs.declared.verdicts.Verdict.TheVariants.{Pass, Fail}
 use Rattle.dt_words.specs.declared.commands.Task.TheVariants as tasks
 use Rattle.dt_words.specs.Table.{Asked}
+use Rattle.dt_record.specs.declared.streams.Next.TheVariants.{End}
+use Rattle.dt_probe_file.specs.Computing.{answers_of}
+use Rattle.dt_probe_file.proofs.Exists.{of_are}
+use Rattle.dt_probe_file.proofs.OneAnswer.{answers_are_one}
+use Rattle.dt_pass.specs.Reading.{first_answers, refusal_in}
 use Rattle.dt_top.specs.declared.replies.Reply.{Reply}
 use Rattle.dt_top.specs.declared.replies.Reply.TheVariants as reply
-use Rattle.dt_top.specs.Answer.{Answer, answer, verdict_status, usage_answer, too_long_answer, image_fault_answer, memory_answer, refusal_answer, refusal_line, refusal_of, refusal_status, AsksFor, IsAnswer, IsReport, IsTooLong, MayWrite, WhereTold}
+use Rattle.dt_top.specs.Answer.{Answer, answer, verdict_status, usage_answer, too_long_answer, image_fault_answer, memory_answer, refusal_answer, refusal_line, refusal_status, AsksFor, IsAnswer, IsRefused, IsReport, IsTooLong, MayWrite, WhereTold}
 use Rattle.dt_top.specs.Replies.{answer_by, CameOf, IsPassReply}
 use Rattle.dt_top.specs.Running.{IsPut, Ran}
+use Rattle.dt_top.proofs.Checking.{not_refused}
 use Rattle.dt_top.proofs.Tasks.{both_told, either, not_dump, not_convert, some_map, where_map, where_pass}
 
 -- ---- the answer
 
 usage_is_answer : (i b : List ℕ) → IsAnswer None i b usage_answer
 usage_is_answer i b = record {
+  answers = answers_of b;
+  are_answers = of_are b;
   usage = λ _. refl;
   too_long = λ is. absurd is;
   refused = λ r is. absurd is;
@@ -37,6 +45,8 @@ usage_is_answer i b = record {
 
 too_long_is_answer : (asked : Asked) (i b : List ℕ) → asked.task ≡ tasks.Pass → IsTooLong i → IsAnswer (Some asked) i b too_long_answer
 too_long_is_answer asked i b is long = record {
+  answers = answers_of b;
+  are_answers = of_are b;
   usage = λ none. cc;
   too_long = λ _ _. refl;
   refused = λ r _ fits. absurd (omega (arith, long, fits));
@@ -46,24 +56,28 @@ too_long_is_answer asked i b is long = record {
 }
 
 refused_is_answer : (asked : Asked) (i b : List ℕ) (r : Refusal) (line : List ℕ) → asked.task ≡ tasks.Pass → length i ≤ 16777216
-    → line ≡ refusal_line r → refusal_of b ≡ Some r → IsAnswer (Some asked) i b (answer (refusal_status r) line)
+    → line ≡ refusal_line r → IsRefused b r → IsAnswer (Some asked) i b (answer (refusal_status r) line)
 refused_is_answer asked i b r line is fits written told = record {
+  answers = told.0;
+  are_answers = told.1;
   usage = λ none. cc;
   too_long = λ _ long. absurd (omega (arith, long, fits));
   refused = λ s _ _ found.
-      let same : r ≡ s = let e = sym told ∙ found in cc in
+      let same : r ≡ s = let e = sym told.2 ∙ found in cc in
       subst (λ (x : Refusal). answer (refusal_status r) line ≡ refusal_answer x) same (ap (λ t. answer (refusal_status r) t) written);
-  report = λ sources _ _ none. let e = sym told ∙ none in cc;
+  report = λ sources _ _ none. let e = sym told.2 ∙ none in cc;
   dump = λ other. absurd (not_dump asked.task is other);
   convert = λ to other. absurd (not_convert asked.task is other.0);
 }
 
 report_is_answer : (asked : Asked) (i b : List ℕ) (a : Answer) → asked.task ≡ tasks.Pass → length i ≤ 16777216
-    → refusal_of b ≡ None → IsReport i b asked.sources a → IsAnswer (Some asked) i b a
-report_is_answer asked i b a is fits none reported = record {
+    → IsReport i b asked.sources a → IsAnswer (Some asked) i b a
+report_is_answer asked i b a is fits reported = record {
+  answers = first_answers reported.harts reported.wide reported.records ++ End (length reported.records) ∷ [];
+  are_answers = reported.file;
   usage = λ nothing. cc;
   too_long = λ _ long. absurd (omega (arith, long, fits));
-  refused = λ s _ _ found. let e = sym none ∙ found in cc;
+  refused = λ s _ _ found. let e = sym (not_refused reported.records (length reported.records) []) ∙ found in cc;
   report = λ sources asks _ _. subst (λ (x : Bool). IsReport i b x a) asks.1 reported;
   dump = λ other. absurd (not_dump asked.task is other);
   convert = λ to other. absurd (not_convert asked.task is other.0);
@@ -156,7 +170,7 @@ ran_of_reply asked image probes image_old image_new probes_old probes_new out_ol
   refused_line = λ asks refused.
       let w = put.whole (not_six refused) in (
         a.text,
-        subst (λ (n : ℕ). IfSome probes (λ b. IsSomeAnd (refusal_of b) (λ r. answer n a.text ≡ refusal_answer r))) (sym w.0)
+        subst (λ (n : ℕ). IfSome probes (λ b. (r : Refusal) × IsRefused b r × (answer n a.text ≡ refusal_answer r))) (sym w.0)
             (came.refused_line asks (subst (λ (n : ℕ). (n ≡ 4) ⊎ (n ≡ 8)) w.0 refused)),
         w.1,
       );
@@ -269,13 +283,16 @@ of_too_long asked image probes image_old image_new probes_old probes_new is told
 
 -- ---- the reply to an image that was loaded
 
-one_refusal : (probes : Option (List ℕ)) (r s : Refusal) → IfSome probes (λ b. refusal_of b ≡ Some r) → IsSomeAnd probes (λ b. refusal_of b ≡ Some s) → r ≡ s
+one_refusal : (probes : Option (List ℕ)) (r s : Refusal) → IfSome probes (λ b. IsRefused b r) → IsSomeAnd probes (λ b. IsRefused b s) → r ≡ s
 one_refusal None r s told found = absurd found
-one_refusal (Some b) r s told found = let e = sym told ∙ found in cc
+one_refusal (Some b) r s told found =
+    let e = sym told.2 ∙ ap refusal_in (answers_are_one b told.0 found.0 told.1 found.1) ∙ found.2 in cc
 
-no_refusal : (probes : Option (List ℕ)) (P : List ℕ → Type 0) (s : Refusal) → IfSome probes (λ b. (refusal_of b ≡ None) × P b) → IsSomeAnd probes (λ b. refusal_of b ≡ Some s) → ⊥
-no_refusal None P s told found = absurd found
-no_refusal (Some b) P s told found = let e = sym told.0 ∙ found in cc
+no_refusal : (probes : Option (List ℕ)) (i : List ℕ) (sources : Bool) (a : Answer) (s : Refusal) → IfSome probes (λ b. IsReport i b sources a) → IsSomeAnd probes (λ b. IsRefused b s) → ⊥
+no_refusal None i sources a s told found = absurd found
+no_refusal (Some b) i sources a s told found =
+    let same = answers_are_one b (first_answers told.harts told.wide told.records ++ End (length told.records) ∷ []) found.0 told.file found.1 in
+    let e = sym (not_refused told.records (length told.records) []) ∙ ap refusal_in same ∙ found.2 in cc
 
 is_not_longer : (i : List ℕ) (image : Option (List ℕ)) → length i ≤ 16777216 → IfSome image (λ bytes. bytes ≡ i) → IsSomeAnd image IsTooLong → ⊥
 is_not_longer i None fits known longer = absurd longer
@@ -289,11 +306,11 @@ not_seven refused = λ seven. either refused (λ e. cc) (λ e. cc)
 
 of_refusal : (asked : Asked) (i : List ℕ) (image probes : Option (List ℕ)) (image_old image_new probes_old probes_new : ℕ) (r : Refusal) (line : List ℕ) → asked.task ≡ tasks.Pass
     → length i ≤ 16777216 → IfSome image (λ bytes. bytes ≡ i)
-    → line ≡ refusal_line r → (r ≡ ReadFault → Rose probes_old probes_new) → (r ≢ ReadFault → r ≢ OutOfMemory → IfSome probes (λ b. refusal_of b ≡ Some r))
+    → line ≡ refusal_line r → (r ≡ ReadFault → Rose probes_old probes_new) → (r ≢ ReadFault → r ≢ OutOfMemory → IfSome probes (λ b. IsRefused b r))
     → CameOf (Some asked) image probes image_old image_new probes_old probes_new (answer (refusal_status r) line)
 of_refusal asked i image probes image_old image_new probes_old probes_new r line is fits known written fault told = record {
   own = λ five seven. where_pass asked image probes (λ i b. IsAnswer (Some asked) i b (answer (refusal_status r) line)) is
-      (both_told image probes (λ bytes. bytes ≡ i) (λ b. refusal_of b ≡ Some r) (λ i b. IsAnswer (Some asked) i b (answer (refusal_status r) line)) known
+      (both_told image probes (λ bytes. bytes ≡ i) (λ b. IsRefused b r) (λ i b. IsAnswer (Some asked) i b (answer (refusal_status r) line)) known
       (told (λ e. five (ap refusal_status e)) (λ e. seven (ap refusal_status e)))
       (λ bytes b same found. refused_is_answer asked bytes b r line is (subst (λ (z : List ℕ). length z ≤ 16777216) (sym same) fits) written found));
   usage = λ two. absurd (omega (arith, refusal_is_great r, two));
@@ -302,12 +319,12 @@ of_refusal asked i image probes image_old image_new probes_old probes_new r line
   too_long_comes = λ asks longer. absurd (is_not_longer i image fits known longer);
   malformed = λ four.
       let m = at_4 r four in
-      (refl, some_map probes _ _ (told (λ e. cc) (λ e. cc)) (λ b found. (m.0, found ∙ ap (λ (x : Refusal). Some x) m.1)));
+      (refl, some_map probes _ _ (told (λ e. cc) (λ e. cc)) (λ b found. (m.0, subst (λ (x : Refusal). IsRefused b x) m.1 found)));
   limit = λ eight.
       let m = at_8 r eight in
-      (refl, some_map probes _ _ (told (λ e. cc) (λ e. cc)) (λ b found. (m.0, m.1, found ∙ ap (λ (x : Refusal). Some x) m.2)));
+      (refl, some_map probes _ _ (told (λ e. cc) (λ e. cc)) (λ b found. (m.0, m.1, subst (λ (x : Refusal). IsRefused b x) m.2 found)));
   refused_line = λ asks refused. some_map probes _ _ (told (λ e. not_five refused (ap refusal_status e)) (λ e. not_seven refused (ap refusal_status e)))
-      (λ b found. subst (λ (x : Option Refusal). IsSomeAnd x (λ s. answer (refusal_status r) line ≡ refusal_answer s)) (sym found) (ap (λ t. answer (refusal_status r) t) written));
+      (λ b found. (r, found, ap (λ t. answer (refusal_status r) t) written));
   refused_comes = λ s asks found three five seven.
       ap refusal_status (one_refusal probes r s (told (λ e. five (ap refusal_status e)) (λ e. seven (ap refusal_status e))) found);
   read_fault = λ five. let e = at_5 r five in inr (fault e, written ∙ ap refusal_line e);
@@ -316,13 +333,13 @@ of_refusal asked i image probes image_old image_new probes_old probes_new r line
 
 of_report : (asked : Asked) (i : List ℕ) (image probes : Option (List ℕ)) (image_old image_new probes_old probes_new : ℕ) (v : Verdict) (text : List ℕ) → asked.task ≡ tasks.Pass
     → length i ≤ 16777216 → IfSome image (λ bytes. bytes ≡ i)
-    → IfSome probes (λ b. (refusal_of b ≡ None) × IsReport i b asked.sources (answer (verdict_status v) text))
+    → IfSome probes (λ b. IsReport i b asked.sources (answer (verdict_status v) text))
     → CameOf (Some asked) image probes image_old image_new probes_old probes_new (answer (verdict_status v) text)
 of_report asked i image probes image_old image_new probes_old probes_new v text is fits known told = record {
   own = λ _ _. where_pass asked image probes (λ i b. IsAnswer (Some asked) i b (answer (verdict_status v) text)) is
-      (both_told image probes (λ bytes. bytes ≡ i) (λ b. (refusal_of b ≡ None) × IsReport i b asked.sources (answer (verdict_status v) text)) (λ i b. IsAnswer (Some asked) i b (answer (verdict_status v) text)) known told
-      (λ bytes b same said. report_is_answer asked bytes b (answer (verdict_status v) text) is (subst (λ (z : List ℕ). length z ≤ 16777216) (sym same) fits) said.0
-      (subst (λ (z : List ℕ). IsReport z b asked.sources (answer (verdict_status v) text)) (sym same) said.1)));
+      (both_told image probes (λ bytes. bytes ≡ i) (λ b. IsReport i b asked.sources (answer (verdict_status v) text)) (λ i b. IsAnswer (Some asked) i b (answer (verdict_status v) text)) known told
+      (λ bytes b same said. report_is_answer asked bytes b (answer (verdict_status v) text) is (subst (λ (z : List ℕ). length z ≤ 16777216) (sym same) fits)
+      (subst (λ (z : List ℕ). IsReport z b asked.sources (answer (verdict_status v) text)) (sym same) said)));
   usage = λ e. absurd (omega (arith, verdict_is_small v, e));
   usage_comes = λ none. cc;
   too_long = λ e. absurd (omega (arith, verdict_is_small v, e));
@@ -330,7 +347,7 @@ of_report asked i image probes image_old image_new probes_old probes_new v text 
   malformed = λ e. absurd (omega (arith, verdict_is_small v, e));
   limit = λ e. absurd (omega (arith, verdict_is_small v, e));
   refused_line = λ asks refused. absurd (either refused (λ e. omega (arith, verdict_is_small v, e)) (λ e. omega (arith, verdict_is_small v, e)));
-  refused_comes = λ s asks found. absurd (no_refusal probes _ s told found);
+  refused_comes = λ s asks found. absurd (no_refusal probes _ _ _ s told found);
   read_fault = λ e. absurd (omega (arith, verdict_is_small v, e));
   memory = λ e. absurd (omega (arith, verdict_is_small v, e));
 }

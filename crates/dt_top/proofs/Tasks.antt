@@ -1,8 +1,11 @@
 -- What is told of what words ask for.
-use Rattle.std.proofs.Common.{◌≡◌, ◌⊎◌, ℕ, List, Option, Some, None, IfSome, sym, subst, inl, inr}
+use Rattle.std.proofs.Common.{◌≡◌, ◌⊎◌, ◌∙◌, ℕ, List, Option, Some, None, IfSome, refl, sym, ap, subst, inl, inr}
 use Rattle.std.specs.Option.{option_map}
 use Rattle.dt_record.specs.declared.streams.Next.{Next}
-use Rattle.dt_probe_file.specs.Told.{answers_of}
+use Rattle.dt_probe_file.specs.Computing.{answers_of}
+use Rattle.dt_probe_file.specs.Told.{AreToldOf}
+use Rattle.dt_probe_file.proofs.Exists.{of_are}
+use Rattle.dt_probe_file.proofs.OneAnswer.{answers_are_one}
 use Rattle.dt_words.specs.declared.commands.Task.{Task}
 use Rattle.dt_words.specs.declared.commands.Task.TheVariants.{Pass, Dump, Convert}
 use Rattle.dt_words.specs.Table.{Asked}
@@ -50,6 +53,16 @@ pub both_told : (image probes : Option (List ℕ)) (A B : List ℕ → Type 0) (
     → ((i b : List ℕ) → A i → B b → P i b) → IfSome image (λ i. IfSome probes (λ b. P i b))
 both_told None probes A B P a b go = tt
 both_told (Some i) probes A B P a b go = some_map probes B (P i) b (λ bytes h. go i bytes a h)
+
+-- the answers that are told of bytes are those that are computed of them
+
+pub told_is : (probes : Option (List ℕ)) (told : Option (List Next)) → AreToldOf probes told → told ≡ option_map answers_of probes
+told_is None told is = is
+told_is (Some b) told is = is.1 ∙ ap (λ (answers : List Next). Some answers) (answers_are_one b is.0 (answers_of b) is.2 (of_are b))
+
+pub are_told : (probes : Option (List ℕ)) → AreToldOf probes (option_map answers_of probes)
+are_told None = refl
+are_told (Some b) = (answers_of b, refl, of_are b)
 
 -- what is told of the answers is told of the bytes
 pub of_bytes : (probes : Option (List ℕ)) (P : List Next → Type 0) (Q : List ℕ → Type 0) → IfSome (option_map answers_of probes) P → ((b : List ℕ) → P (answers_of b) → Q b) → IfSome probes Q

@@ -1,9 +1,11 @@
-use Rattle.std.specs.Prelude.{ℕ, ◌≡◌, ◌≤◌, ◌<◌, ◌==◌, ◌⊎◌, Bool, if◌then◌else◌, List, [], ◌∷◌, ◌++◌, length, Option, Some, None, option_map, IfSome, IsSomeAnd, codes}
+use Rattle.std.specs.Prelude.{ℕ, ◌≡◌, ◌≤◌, ◌<◌, ◌==◌, ◌⊎◌, Bool, if◌then◌else◌, List, [], ◌∷◌, ◌++◌, length, Option, Some, None, IfSome, IsSomeAnd, codes}
 use Rattle.dt_record.specs.declared.records.Record.{Record}
 use Rattle.dt_record.specs.declared.writes.What.{What}
+use Rattle.dt_record.specs.declared.streams.Next.{Next}
 use Rattle.dt_record.specs.declared.streams.Next.TheVariants as next
+use Rattle.dt_record.specs.Answers.{AreAnswers}
 use Rattle.dt_record.specs.Spelling.{Version, One, Two}
-use Rattle.dt_probe_file.specs.Told.{answers_of}
+use Rattle.dt_probe_file.specs.Told.{AreToldOf}
 use Rattle.dt_dump.specs.Dump.{IsCutShort, dump_text, last_line, memory_line, read_fault_line, stream_status}
 use Rattle.dt_convert.specs.Convert.{converted}
 use Rattle.dt_verdict.specs.declared.answers.Checked.{Checked}
@@ -51,9 +53,9 @@ IsTooLong image = 16777216 < length image
 abbrev pub too_long_answer : Answer
 too_long_answer = answer 3 (codes "IMAGE TOO LONG\n")
 
--- why a file is not read to its end, where it is not: the answer that ended its answers, a fault of its form or a limit
-abbrev pub refusal_of : List ℕ → Option Refusal
-refusal_of probes = refusal_in (answers_of probes)
+-- why a file is not read to its end: the answer that ends its answers, a fault of its form or a limit
+abbrev pub IsRefused : List ℕ → Refusal → Type 0
+IsRefused probes r = (answers : List Next) × AreAnswers probes answers × (refusal_in answers ≡ Some r)
 
 abbrev pub refusal_status : Refusal → ℕ
 refusal_status (Malformed offset) = 4
@@ -71,30 +73,30 @@ refusal_line OutOfMemory = memory_line
 abbrev pub refusal_answer : Refusal → Answer
 refusal_answer r = answer (refusal_status r) (refusal_line r)
 
--- The report of what checking a file's records comes to, and the status of its verdict: the file has a header, these
--- records and their end, and nothing else.
+-- The report of what checking a file's records comes to, and the status of its verdict: the file's answers are a header,
+-- these records and their end, and nothing else.
 pub record IsReport (image probes : List ℕ) (sources : Bool) (a : Answer) : Type 0 where
   pub harts : ℕ
   pub wide : Bool
   pub records : List Record
-  pub file : answers_of probes ≡ first_answers harts wide records ++ next.End (length records) ∷ []
+  pub file : AreAnswers probes (first_answers harts wide records ++ next.End (length records) ∷ [])
   pub checked : Checked
   pub is_checked : IsChecked image wide harts records checked
   pub reported : a ≡ answer (verdict_status checked.verdict) (report_text checked sources)
 
 -- ---- the other tasks
 
--- the lines of a file's records, and a line for how the file ends
-abbrev pub dump_answer : List ℕ → Answer
-dump_answer probes = answer (stream_status (answers_of probes)) (dump_text (answers_of probes))
+-- the lines of the records that a file answers, and a line for how the file ends
+abbrev pub dump_answer : List Next → Answer
+dump_answer answers = answer (stream_status answers) (dump_text answers)
 
 -- the version that a number names, where the words allow 1 and 2 alone
 abbrev pub version_named : ℕ → Version
 version_named to = if to == 1 then One else Two
 
 -- the file of that version with the same header and records, or a line for how the file ends otherwise
-abbrev pub convert_answer : ℕ → List ℕ → Answer
-convert_answer to probes = answer (stream_status (answers_of probes)) (converted (version_named to) (answers_of probes))
+abbrev pub convert_answer : ℕ → List Next → Answer
+convert_answer to answers = answer (stream_status answers) (converted (version_named to) answers)
 
 -- ---- what words ask for
 
@@ -111,14 +113,18 @@ AsksToConvert to asked = IsSomeAnd asked (λ q. (q.task ≡ Convert) × (q.to �
 -- ---- the answer
 
 -- The program's answer to what its words ask for, the bytes of an image and those of a probe file,
--- where nothing fails and memory is ample: one sentence for each cause.
+-- where nothing fails and memory is ample: one sentence for each cause. It speaks of the answers that the probe file's
+-- bytes give, of which there is one list.
 pub record IsAnswer (asked : Option Asked) (image probes : List ℕ) (a : Answer) : Type 0 where
+  pub answers : List Next
+  pub are_answers : AreAnswers probes answers
   pub usage : asked ≡ None → a ≡ usage_answer
   pub too_long : AsksFor Pass asked → IsTooLong image → a ≡ too_long_answer
-  pub refused : (r : Refusal) → AsksFor Pass asked → length image ≤ 16777216 → refusal_of probes ≡ Some r → a ≡ refusal_answer r
-  pub report : (sources : Bool) → AsksToCheck sources asked → length image ≤ 16777216 → refusal_of probes ≡ None → IsReport image probes sources a
-  pub dump : AsksFor Dump asked → a ≡ dump_answer probes
-  pub convert : (to : ℕ) → AsksToConvert to asked → a ≡ convert_answer to probes
+  pub refused : (r : Refusal) → AsksFor Pass asked → length image ≤ 16777216 → refusal_in answers ≡ Some r → a ≡ refusal_answer r
+  pub report : (sources : Bool) → AsksToCheck sources asked → length image ≤ 16777216 → refusal_in answers ≡ None
+      → IsReport image probes sources a
+  pub dump : AsksFor Dump asked → a ≡ dump_answer answers
+  pub convert : (to : ℕ) → AsksToConvert to asked → a ≡ convert_answer to answers
 
 -- a fact of the bytes of an image and a probe file that a task reads, where their sources tell these:
 -- `pass` reads both, the others read a probe file alone
@@ -136,18 +142,22 @@ WhereTold (Some asked) image probes P = WhereRead asked.task image probes P
 
 -- a fault of a file's form comes before its end and before any limit
 abbrev pub EndsMalformed : List ℕ → Type 0
-EndsMalformed probes = (offset : ℕ) × (refusal_of probes ≡ Some (Malformed offset))
+EndsMalformed probes = (offset : ℕ) × IsRefused probes (Malformed offset)
 
 -- a limit comes before its end and before any fault of its form
 abbrev pub EndsAtLimit : List ℕ → Type 0
-EndsAtLimit probes = (what : What) × (number : ℕ) × (refusal_of probes ≡ Some (Limit what number))
+EndsAtLimit probes = (what : What) × (number : ℕ) × IsRefused probes (Limit what number)
 
 -- ---- what may come otherwise
+
+-- whole lines of some of the first records that a file answers, and then this line
+abbrev pub IsCutOff : Option (List ℕ) → List ℕ → List ℕ → Type 0
+IsCutOff probes line text = (told : Option (List Next)) × AreToldOf probes told × IsCutShort told line text
 
 -- The line of a read that failed, or of want of memory. `dump` has written whole lines of some of the
 -- first records before it, and the other tasks nothing.
 abbrev pub StopsWith : List ℕ → Option Asked → Option (List ℕ) → List ℕ → Type 0
-StopsWith line asked probes text = (text ≡ line) ⊎ (AsksFor Dump asked × IsCutShort (option_map answers_of probes) line text)
+StopsWith line asked probes text = (text ≡ line) ⊎ (AsksFor Dump asked × IsCutOff probes line text)
 
 -- A text that may come: that of the whole input, where the sources tell it; or that of a read that
 -- failed; or that of want of memory.

@@ -1,5 +1,5 @@
 -- What the program comes to before it writes. No public clause cites these words.
-use Rattle.std.specs.Prelude.{ℕ, ◌≡◌, ◌≢◌, ◌⊎◌, Bool, List, Option, None, Some, IfSome, IsSome, IsSomeAnd}
+use Rattle.std.specs.Prelude.{ℕ, ◌≡◌, ◌≢◌, ◌⊎◌, Bool, List, Option, None, IfSome, IsSome, IsSomeAnd}
 use Rattle.std.specs.String.{string_bytes}
 use Rattle.dt_source.specs.Faults.{Rose}
 use Rattle.dt_dump.specs.Dump.{memory_line, read_fault_line}
@@ -11,7 +11,7 @@ use Rattle.dt_words.specs.declared.commands.Task.TheVariants.{Pass}
 use Rattle.dt_words.specs.Table.{Asked}
 use Rattle.dt_top.specs.declared.replies.Reply.{Reply}
 use Rattle.dt_top.specs.declared.replies.Reply.TheVariants.{Usage, TooLong, ReadFaultImage, Refused, Report, OutOfMemory}
-use Rattle.dt_top.specs.Answer.{Answer, answer, verdict_status, usage_answer, image_fault_answer, memory_answer, too_long_answer, refusal_answer, refusal_of, refusal_status, refusal_line, AsksFor, IsAnswer, IsReport, IsTooLong, WhereTold, EndsMalformed, EndsAtLimit}
+use Rattle.dt_top.specs.Answer.{Answer, answer, verdict_status, usage_answer, image_fault_answer, memory_answer, too_long_answer, refusal_answer, refusal_status, refusal_line, AsksFor, IsAnswer, IsReport, IsTooLong, WhereTold, IsRefused, EndsMalformed, EndsAtLimit}
 
 -- the status and the text of a reply
 abbrev pub answer_by : Reply → Answer
@@ -38,9 +38,9 @@ IsRefusalReply r reply = ⊥
 abbrev pub IsPassReply : (image : List ℕ) (sources : Bool) (probes : Option (List ℕ)) (probes_old probes_new : ℕ) → Reply → Type 0
 IsPassReply image sources probes probes_old probes_new (Refused r line) =
     (string_bytes line ≡ refusal_line r) × (r ≡ refusal.ReadFault → Rose probes_old probes_new)
-    × (r ≢ refusal.ReadFault → r ≢ refusal.OutOfMemory → IfSome probes (λ b. refusal_of b ≡ Some r))
+    × (r ≢ refusal.ReadFault → r ≢ refusal.OutOfMemory → IfSome probes (λ b. IsRefused b r))
 IsPassReply image sources probes probes_old probes_new (Report verdict text) =
-    IfSome probes (λ b. (refusal_of b ≡ None) × IsReport image b sources (answer (verdict_status verdict) text))
+    IfSome probes (λ b. IsReport image b sources (answer (verdict_status verdict) text))
 IsPassReply image sources probes probes_old probes_new OutOfMemory = Unit {0}
 IsPassReply image sources probes probes_old probes_new reply = ⊥
 
@@ -54,8 +54,8 @@ pub record CameOf (asked : Option Asked) (image probes : Option (List ℕ)) (ima
   pub too_long_comes : AsksFor Pass asked → IsSomeAnd image IsTooLong → a.status ≢ 5 → a.status ≢ 7 → a.status ≡ 3
   pub malformed : a.status ≡ 4 → IsSome asked × IfSome probes EndsMalformed
   pub limit : a.status ≡ 8 → IsSome asked × IfSome probes EndsAtLimit
-  pub refused_line : AsksFor Pass asked → (a.status ≡ 4) ⊎ (a.status ≡ 8) → IfSome probes (λ b. IsSomeAnd (refusal_of b) (λ r. a ≡ refusal_answer r))
-  pub refused_comes : (r : Refusal) → IsSome asked → IsSomeAnd probes (λ b. refusal_of b ≡ Some r)
+  pub refused_line : AsksFor Pass asked → (a.status ≡ 4) ⊎ (a.status ≡ 8) → IfSome probes (λ b. (r : Refusal) × IsRefused b r × (a ≡ refusal_answer r))
+  pub refused_comes : (r : Refusal) → IsSome asked → IsSomeAnd probes (λ b. IsRefused b r)
       → a.status ≢ 3 → a.status ≢ 5 → a.status ≢ 7 → a.status ≡ refusal_status r
   pub read_fault : a.status ≡ 5
       → (Rose image_old image_new × AsksFor Pass asked × (a.text ≡ image_fault_answer.text)) ⊎ (Rose probes_old probes_new × (a.text ≡ read_fault_line))

@@ -1,12 +1,12 @@
 -- What a run comes to, of what its words ask for. No public clause cites these words.
-use Rattle.std.specs.Prelude.{ℕ, ◌≡◌, ◌≢◌, ◌⊎◌, List, Option, None, Some, IfSome, IsSome, IsSomeAnd}
+use Rattle.std.specs.Prelude.{ℕ, ◌≡◌, ◌≢◌, ◌⊎◌, List, Option, None, IfSome, IsSome, IsSomeAnd}
 use Rattle.dt_source.specs.Faults.{Rose}
 use Rattle.dt_source.specs.Known.{Appends}
 use Rattle.dt_dump.specs.Dump.{AppendsPart, memory_line, read_fault_line}
 use Rattle.dt_verdict.specs.declared.answers.Refusal.{Refusal}
 use Rattle.dt_words.specs.declared.commands.Task.TheVariants.{Pass}
 use Rattle.dt_words.specs.Table.{Asked}
-use Rattle.dt_top.specs.Answer.{Answer, answer, usage_answer, too_long_answer, image_fault_answer, refusal_answer, refusal_of, refusal_status, AsksFor, IsAnswer, IsTooLong, WhereTold, EndsMalformed, EndsAtLimit, StopsWith, MayWrite}
+use Rattle.dt_top.specs.Answer.{Answer, answer, usage_answer, too_long_answer, image_fault_answer, refusal_answer, refusal_status, AsksFor, IsAnswer, IsTooLong, WhereTold, IsRefused, EndsMalformed, EndsAtLimit, StopsWith, MayWrite}
 
 -- what was written of an answer, and the exit status; 6 where a write failed
 pub record IsPut (a : Answer) (out_old out_new : ℕ) (before after : Option (List ℕ)) (status : ℕ) : Type 0 where
@@ -24,8 +24,8 @@ pub record Ran (asked : Option Asked) (image probes : Option (List ℕ)) (image_
   pub malformed : status ≡ 4 → IsSome asked × IfSome probes EndsMalformed
   pub limit : status ≡ 8 → IsSome asked × IfSome probes EndsAtLimit
   pub refused_line : AsksFor Pass asked → (status ≡ 4) ⊎ (status ≡ 8) → (text : List ℕ)
-      × IfSome probes (λ b. IsSomeAnd (refusal_of b) (λ r. answer status text ≡ refusal_answer r)) × Appends before text after
-  pub refused_comes : (r : Refusal) → IsSome asked → IsSomeAnd probes (λ b. refusal_of b ≡ Some r)
+      × IfSome probes (λ b. (r : Refusal) × IsRefused b r × (answer status text ≡ refusal_answer r)) × Appends before text after
+  pub refused_comes : (r : Refusal) → IsSome asked → IsSomeAnd probes (λ b. IsRefused b r)
       → status ≢ 3 → status ≢ 5 → status ≢ 6 → status ≢ 7 → status ≡ refusal_status r
   pub read_fault : status ≡ 5
       → (Rose image_old image_new × AsksFor Pass asked × Appends before image_fault_answer.text after)

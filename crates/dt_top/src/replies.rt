@@ -8,7 +8,7 @@ ghost use Rattle.dt_top.specs.Replies.{CameOf, IsPassReply, IsRefusalReply, IsRe
 
 use dt_image::{Image, ImageRefusal, load};
 use dt_pass::pass;
-use dt_probe_file::{FileProbes, Room, one_list};
+use dt_probe_file::{FileProbes, Room};
 use dt_record::What;
 use dt_report::{Text, report};
 use dt_source::Source;
@@ -124,7 +124,6 @@ fn pass_reply<P: Source>(alloc: Global, sources: bool, image: &Image, probes: &m
     ensures said { IsPassReply image.now sources (P.left probes.old) (P.faults probes.old) (P.faults probes.new) result }
     ensures never_falls { P.faults probes.old ≤ P.faults probes.new }
 {
-    one_list();
     let Ok(room) = Room::new(alloc) else {
         return Reply::OutOfMemory;
     };

@@ -3,9 +3,10 @@ ghost use Rattle.std.specs.String.{string_bytes};
 ghost use Rattle.dt_source.specs.Faults.{Rose};
 ghost use Rattle.dt_source.specs.Known.{Appends};
 ghost use Rattle.dt_dump.specs.Dump.{AppendsPart, memory_line, read_fault_line};
+ghost use Rattle.dt_verdict.specs.declared.answers.Refusal.{Refusal};
 ghost use Rattle.dt_words.specs.declared.commands.Task.TheVariants.{Pass};
 ghost use Rattle.dt_words.specs.Table.{asked_of};
-ghost use Rattle.dt_top.specs.Answer.{AsksFor, EndsAtLimit, EndsMalformed, IsAnswer, IsTooLong, MayWrite, StopsWith, WhereTold, answer, image_fault_answer, refusal_answer, refusal_of, too_long_answer, usage_answer};
+ghost use Rattle.dt_top.specs.Answer.{AsksFor, EndsAtLimit, EndsMalformed, IsAnswer, IsRefused, IsTooLong, MayWrite, StopsWith, WhereTold, answer, image_fault_answer, refusal_answer, too_long_answer, usage_answer};
 ghost use Rattle.dt_top.specs.Running.{Ran};
 
 use crate::replies::Reply;
@@ -62,7 +63,7 @@ pub fn run_plain<I: Source, P: Source, O: Sink>(
         → result ≢ 3 → result ≢ 5 → result ≢ 6 → result ≢ 7 → result ≡ 8 }
     ensures refused_line { AsksFor Pass (asked_of (map string_bytes words.now)) → (result ≡ 4) ⊎ (result ≡ 8)
         → (text : List ℕ)
-        × IfSome (P.left probes.old) (λ b. IsSomeAnd (refusal_of b) (λ r. answer result text ≡ refusal_answer r))
+        × IfSome (P.left probes.old) (λ b. (r : Refusal) × IsRefused b r × (answer result text ≡ refusal_answer r))
         × Appends (O.written out.old) text (O.written out.new) }
     ensures read_fault { result ≡ 5
         → (Rose (I.faults image.old) (I.faults image.new) × AsksFor Pass (asked_of (map string_bytes words.now))

@@ -1,6 +1,6 @@
 use Rattle.std.proofs.Common.{◌<◌, refl, ◌∙◌, arith}
 use Rattle.std.proofs.lemmas.List.{get_or-replicate}
-use Rattle.dt_dump.specs.ReadingLaws.{hart_fits}
+use Rattle.dt_dump.proofs.ReadingLaws.{hart_fits}
 use Rattle.dt_convert.proofs.Drafts.{after_record, lawful_next, starts}
 use Rattle.dt_convert.proofs.converting.file_of.Goals as goal
 

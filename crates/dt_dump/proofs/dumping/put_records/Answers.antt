@@ -2,7 +2,7 @@ use Rattle.std.proofs.Common.{◌<◌, ℕ, List, refl, sym, ◌∙◌, subst, a
 use Rattle.std.proofs.lemmas.List.{get_or-replicate}
 use Rattle.dt_text.specs.Line.{line_text}
 use Rattle.dt_dump.specs.Dump.{AppendsPart}
-use Rattle.dt_dump.specs.ReadingLaws.{hart_fits}
+use Rattle.dt_dump.proofs.ReadingLaws.{hart_fits}
 use Rattle.dt_dump.proofs.Texts.{front_of_text}
 use Rattle.dt_dump.proofs.Underway.{IsUnderway, after_record, comes_next, has_room, starts}
 use Rattle.dt_dump.proofs.dumping.put_records.Goals as goal

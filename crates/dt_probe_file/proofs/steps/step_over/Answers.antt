@@ -1,6 +1,6 @@
 use Rattle.std.proofs.Common.{[], refl, ◌++◌}
 use Rattle.dt_probe_file.specs.Fronts.{reading_of}
-use Rattle.dt_probe_file.specs.Told.{answers_after}
+use Rattle.dt_probe_file.specs.Computing.{answers_after}
 use Rattle.dt_probe_file.proofs.Stepping.{limit_over, event_over, takes_record}
 use Rattle.dt_probe_file.proofs.steps.step_over.Goals as goal
 

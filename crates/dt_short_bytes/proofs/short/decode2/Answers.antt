@@ -1,6 +1,6 @@
 use Rattle.std.proofs.Common.{sym, ◌∙◌, arith}
-use Rattle.dt_short_bytes.specs.ShortGrammar.{bytes_from}
-use Rattle.dt_short_bytes.specs.ShortAnswers.{got_law, short_law, bad_law}
+use Rattle.dt_short_bytes.proofs.ShortGrammar.{bytes_from}
+use Rattle.dt_short_bytes.proofs.ShortAnswers.{got_law, short_law, bad_law}
 use Rattle.dt_short_bytes.proofs.ShortLengths.{got_long, short_long, not_yet, for_good}
 use Rattle.dt_short_bytes.proofs.short.decode2.Goals as goal
 

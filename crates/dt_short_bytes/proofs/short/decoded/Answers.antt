@@ -1,6 +1,6 @@
 use Rattle.std.proofs.Common.{Err, ap, ◌∙◌, arith}
-use Rattle.dt_short_bytes.specs.ShortChain.{rest_within, left_within}
-use Rattle.dt_short_bytes.specs.ShortGrammar.{bytes_from}
+use Rattle.dt_short_bytes.proofs.ShortChain.{rest_within, left_within}
+use Rattle.dt_short_bytes.proofs.ShortGrammar.{bytes_from}
 use Rattle.dt_short_bytes.specs.ShortPieces.{read_of}
 use Rattle.dt_short_bytes.proofs.short.decoded.Goals as goal
 

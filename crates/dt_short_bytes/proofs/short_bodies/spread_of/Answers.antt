@@ -1,7 +1,7 @@
 use Rattle.std.proofs.Common.{◌+◌, ◌-◌, ◌/◌, ◌%◌, eqb, ◌<◌, [], ◌∷◌, ◌++◌, length, take, List, ℕ, ap, ◌∙◌, arith}
 use Rattle.std.proofs.lemmas.List.{take_more_set, length-set}
 use Rattle.dt_short_bytes.specs.ShortReading.{spread, next_byte}
-use Rattle.dt_short_bytes.specs.ShortSpread.{goes_on, is_done}
+use Rattle.dt_short_bytes.proofs.ShortSpread.{goes_on, is_done}
 use Rattle.dt_short_bytes.proofs.short_bodies.spread_of.Goals as goal
 
 pub loop-i-preserved : goal.loop-i-preserved

@@ -5,7 +5,7 @@ use Rattle.dt_top.proofs.replies.pass_reply.Goals as goal
 
 pub returns-in-Ok-answer-clause-said : goal.returns-in-Ok-answer-clause-said
 returns-in-Ok-answer-clause-said g c =
-    checked_said c.one_list.ensures.some _ _ _ _ _ _ _ _ c.report_reply.result c.within-stream.ensures.told c.in-Ok-answer.ensures.checked c.report_reply.ensures
+    checked_said _ _ _ _ _ _ _ _ c.report_reply.result c.within-stream.ensures.told c.in-Ok-answer.ensures.checked c.report_reply.ensures
 
 pub returns-in-Err-clause-said : goal.returns-in-Err-clause-said
 returns-in-Err-clause-said g c =

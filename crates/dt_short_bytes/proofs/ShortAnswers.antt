@@ -11,9 +11,9 @@ use Rattle.dt_short_bytes.specs.declared.short_pieces.Stop.{Stop}
 use Rattle.dt_short_bytes.specs.declared.short_pieces.Stop.TheVariants as stops
 use Rattle.dt_short_bytes.specs.ShortForms.{Form, form_bytes, FitsForm, IsForm, IsFormPrefix, IsUnfinished, StartsWithForm, IsLongest, StartsWith, IsGot, IsBad}
 use Rattle.dt_short_bytes.specs.ShortReading.{Read, read_at, record_at, got_or_bad, decoded_with, decoded_at}
-use Rattle.dt_short_bytes.specs.ShortGrammar.{IsBytes, Reads, Takes, Lacks, Breaks, Reads-done, Reads-short}
-use Rattle.dt_short_bytes.specs.ShortChain.{ReadText, Read-free, read_reads, read_of_form, to_form, from_form}
-use Rattle.dt_short_bytes.specs.ShortRecords.{form_of, spelling_is, form_fits, record_again, record_takes}
+use Rattle.dt_short_bytes.proofs.ShortGrammar.{IsBytes, Reads, Takes, Lacks, Breaks, Reads-done, Reads-short}
+use Rattle.dt_short_bytes.proofs.ShortChain.{ReadText, Read-free, read_reads, read_of_form, to_form, from_form}
+use Rattle.dt_short_bytes.proofs.ShortRecords.{form_of, spelling_is, form_fits, record_again, record_takes}
 
 -- what is read of a form is a form
 is_form : (text : List ℕ) (read : Read) → ReadText text read → IsForm text

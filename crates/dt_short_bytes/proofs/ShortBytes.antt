@@ -9,11 +9,11 @@ use Rattle.dt_record.specs.declared.kinds.Kind.{Kind}
 use Rattle.dt_record.specs.declared.kinds.Kind.TheVariants as kinds
 use Rattle.dt_record.specs.Kinds.{kind_number}
 use Rattle.dt_short_bytes.specs.ShortForms.{Form, form_bytes, FitsForm, MayFollow}
-use Rattle.dt_short_bytes.specs.ShortGrammar.{IsBytes}
-use Rattle.dt_short_bytes.specs.ShortVarint.{wider}
-use Rattle.dt_short_bytes.specs.ShortTexts.{low_bytes}
-use Rattle.dt_short_bytes.specs.ShortChain.{groups, presence_spelled}
-use Rattle.dt_short_bytes.specs.ShortRecords.{form_of, spelling_is, form_fits}
+use Rattle.dt_short_bytes.proofs.ShortGrammar.{IsBytes}
+use Rattle.dt_short_bytes.proofs.ShortVarint.{wider}
+use Rattle.dt_short_bytes.proofs.ShortTexts.{low_bytes}
+use Rattle.dt_short_bytes.proofs.ShortChain.{groups, presence_spelled}
+use Rattle.dt_short_bytes.proofs.ShortRecords.{form_of, spelling_is, form_fits}
 
 both_bytes : (xs ys : List ℕ) → IsBytes xs → IsBytes ys → IsBytes (xs ++ ys)
 both_bytes [] ys a b = b

@@ -13,10 +13,10 @@ use Rattle.dt_short_bytes.specs.declared.short_pieces.Stop.{Stop}
 use Rattle.dt_short_bytes.specs.declared.short_pieces.Stop.TheVariants as stops
 use Rattle.dt_short_bytes.specs.ShortForms.{field_count, line_count, Form, form_bytes, FitsForm}
 use Rattle.dt_short_bytes.specs.ShortReading.{◌>>=◌, Read, kind_at, byte_from, later_at, presence_at, padded, padded_at, line_at, read_at}
-use Rattle.dt_short_bytes.specs.ShortGrammar.{IsBytes, IsBytes-back, Reads, IsFree, IsInhabited, Then, Ends, Ends-reads, Ends-free, Ends-inhabited, Then-free, Then-inhabited, Then-reads}
-use Rattle.dt_short_bytes.specs.ShortVarint.{Later, Later-free, Later-inhabited, later_reads}
-use Rattle.dt_short_bytes.specs.ShortTexts.{KindText, Kind-free, kind_reads, ByteText, Byte-free, Byte-inhabited, byte_reads, low_bytes, PresenceText, Presence-free, Presence-inhabited, presence_reads}
-use Rattle.dt_short_bytes.specs.ShortLists.{PaddedText, Padded-free, Padded-inhabited, padded_reads, LineText, Line-free, Line-inhabited, line_reads}
+use Rattle.dt_short_bytes.proofs.ShortGrammar.{IsBytes, IsBytes-back, Reads, IsFree, IsInhabited, Then, Ends, Ends-reads, Ends-free, Ends-inhabited, Then-free, Then-inhabited, Then-reads}
+use Rattle.dt_short_bytes.proofs.ShortVarint.{Later, Later-free, Later-inhabited, later_reads}
+use Rattle.dt_short_bytes.proofs.ShortTexts.{KindText, Kind-free, kind_reads, ByteText, Byte-free, Byte-inhabited, byte_reads, low_bytes, PresenceText, Presence-free, Presence-inhabited, presence_reads}
+use Rattle.dt_short_bytes.proofs.ShortLists.{PaddedText, Padded-free, Padded-inhabited, padded_reads, LineText, Line-free, Line-inhabited, line_reads}
 
 abbrev made : Kind → ℕ → ℕ → List ℕ → List ℕ → Read
 made kind hart later numbers line = record { kind = kind; hart = hart; later = later; numbers = numbers; line = line }

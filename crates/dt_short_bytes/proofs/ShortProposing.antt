@@ -3,26 +3,15 @@ use Rattle.std.proofs.Common.{◌≡◌, ℕ, Bool, true, false, ltb, List, [], 
 use Rattle.std.proofs.lemmas.List.{drop_at}
 use Rattle.std.proofs.lemmas.Bool.{lt-ltb, ltb-true}
 use Rattle.dt_record.specs.declared.records.Record.{Record}
-use Rattle.dt_record.specs.declared.records.Body.TheVariants.{Beat}
 use Rattle.dt_record.specs.Spelling.{short_bytes}
-use Rattle.dt_record_bytes.specs.declared.decoded.Decoded.{Decoded}
-use Rattle.dt_record_bytes.specs.declared.decoded.Decoded.TheVariants.{Got, Short, Bad}
-use Rattle.dt_record_bytes.specs.WideProposing.{Proposal, proposal}
+use Rattle.dt_record_bytes.specs.declared.decoded.Decoded.TheVariants.{Got}
+use Rattle.dt_record_bytes.specs.WideReading.{proposal}
 use Rattle.dt_short_bytes.specs.ShortForms.{MayFollow, StartsWith}
+use Rattle.dt_short_bytes.specs.ShortFronts.{front_with, bytes_front, of_decoded, short_proposal}
 use Rattle.dt_short_bytes.specs.ShortReading.{decoded_at}
-use Rattle.dt_short_bytes.specs.ShortGrammar.{IsBytes}
-use Rattle.dt_short_bytes.specs.ShortBytes.{short_is_bytes}
-use Rattle.dt_short_bytes.specs.ShortAnswers.{got_back}
-
--- The front of a list up to the first number that is no byte.
-
-front_with : Bool → ℕ → List ℕ → List ℕ
-front_with true b front = b ∷ front
-front_with false b front = []
-
-bytes_front : List ℕ → List ℕ
-bytes_front [] = []
-bytes_front (b ∷ bytes) = front_with (ltb b 256) b (bytes_front bytes)
+use Rattle.dt_short_bytes.proofs.ShortGrammar.{IsBytes}
+use Rattle.dt_short_bytes.proofs.ShortBytes.{short_is_bytes}
+use Rattle.dt_short_bytes.proofs.ShortAnswers.{got_back}
 
 front_cases : (b : ℕ) (front : List ℕ) (t : Bool) → ltb b 256 ≡ t → IsBytes front → IsBytes (front_with t b front)
 unfolding front_with
@@ -39,15 +28,6 @@ unfolding bytes_front front_with
 front_keeps [] rest fits = refl
 front_keeps (b ∷ text) rest fits =
     ap (λ (t : Bool). front_with t b (bytes_front (text ++ rest))) (lt-ltb b 256 fits.0) ∙ ap (λ (z : List ℕ). b ∷ z) (front_keeps text rest fits.1)
-
-of_decoded : List ℕ → Decoded → Proposal
-of_decoded bytes (Got r len) = proposal r (drop len bytes)
-of_decoded bytes Short = proposal (record { stamp = 0; hart = 0; body = Beat }) bytes
-of_decoded bytes (Bad at) = proposal (record { stamp = 0; hart = 0; body = Beat }) bytes
-
--- what a reading of the front gives, after the last stamp
-pub short_proposal : ℕ → List ℕ → Proposal
-short_proposal last bytes = of_decoded bytes (decoded_at last (bytes_front bytes))
 
 short_again : (last : ℕ) (r : Record) (rest : List ℕ) → MayFollow last r → decoded_at last (bytes_front (short_bytes last r ++ rest)) ≡ Got r (length (short_bytes last r))
 short_again last r rest follows =

@@ -3,14 +3,12 @@ use Rattle.std.proofs.Common.{◌≡◌, ℕ, ◌≤◌, List, ◌++◌, get_or,
 use Rattle.dt_record.specs.declared.records.Record.{Record}
 use Rattle.dt_record.specs.Spelling.{Version, One, Two, short_bytes}
 use Rattle.dt_record.specs.Answers.{Reading, GoesOn}
-use Rattle.dt_record_bytes.specs.WideProposing.{Proposal, proposal, wide_proposal, wide_proposed}
-use Rattle.dt_short_bytes.specs.ShortProposing.{short_proposal, short_proposed}
+use Rattle.dt_record_bytes.specs.WideReading.{Proposal, proposal}
+use Rattle.dt_record_bytes.proofs.WideProposing.{wide_proposed}
+use Rattle.dt_short_bytes.specs.ShortFronts.{short_proposal}
+use Rattle.dt_short_bytes.proofs.ShortProposing.{short_proposed}
+use Rattle.dt_probe_file.specs.Computing.{proposed}
 use Rattle.dt_probe_file.specs.Fronts.{IsNotBelow, IsRead}
-
--- the only record that may stand at the front of bytes
-pub proposed : Version → (ℕ → ℕ) → List ℕ → Proposal
-proposed One last bytes = wide_proposal bytes
-proposed Two last bytes = short_proposal (last (get_or bytes 1 0)) bytes
 
 pub second_of : (last : ℕ) (bytes : List ℕ) (r : Record) (rest : List ℕ) → bytes ≡ short_bytes last r ++ rest → get_or bytes 1 0 ≡ r.hart
 unfolding short_bytes

@@ -2,22 +2,9 @@
 use Rattle.std.proofs.Common.{◌≡◌, ℕ, List, ◌++◌, sym, ap, ◌∙◌}
 use Rattle.dt_record.specs.declared.records.Record.{Record}
 use Rattle.dt_record_bytes.specs.WideAnswer.{IsSpelled}
-use Rattle.dt_record_bytes.specs.Apart.{Whole, read_fields, fields_again}
-use Rattle.dt_record_bytes.specs.Bounds.{wrote_byte_of, wrote_byte_is, same_bytes}
-
--- a record, and the bytes behind it
-abbrev pub Proposal : Type 0
-Proposal = Record × List ℕ
-
-abbrev pub proposal : Record → List ℕ → Proposal
-proposal r rest = (r, rest)
-
-of_whole : Whole → Proposal
-of_whole w = proposal w.0 w.2
-
--- the fields that stand at the front, taken one after another
-pub wide_proposal : List ℕ → Proposal
-wide_proposal bytes = of_whole (read_fields bytes)
+use Rattle.dt_record_bytes.specs.WideReading.{read_fields, of_whole, proposal, wide_proposal}
+use Rattle.dt_record_bytes.proofs.Apart.{fields_again}
+use Rattle.dt_record_bytes.proofs.Bounds.{wrote_byte_of, wrote_byte_is, same_bytes}
 
 -- if any record is spelled at the front, it is the one that is proposed
 pub wide_proposed : (bytes : List ℕ) (r : Record) (rest : List ℕ) → IsSpelled bytes r rest → wide_proposal bytes ≡ proposal r rest

@@ -1,7 +1,6 @@
 -- The fields of a spelling are read back from it. So no two records have one spelling.
-use Rattle.std.proofs.Common.{◌≡◌, ℕ, suc, zero, ◌<◌, ◌^◌, ◌==◌, Bool, not, if◌then◌else◌, List, [], ◌∷◌, ◌++◌, length, take, drop, refl, sym, ap, ◌∙◌, append_assoc}
+use Rattle.std.proofs.Common.{◌≡◌, ℕ, suc, ◌<◌, ◌^◌, ◌==◌, Bool, not, List, [], ◌∷◌, ◌++◌, length, drop, refl, sym, ap, ◌∙◌, append_assoc}
 use Rattle.std.specs.List.{flat_map, AllByRecursion}
-use Rattle.std.specs.Int.{from_le_bytes, w16, w32, w64}
 use Rattle.std.proofs.lemmas.Nat.{from_le_bytes-to_le_bytes_2, from_le_bytes-to_le_bytes_4, from_le_bytes-to_le_bytes_8}
 use Rattle.std.proofs.lemmas.List.{take_at, drop_at}
 use Rattle.dt_record.specs.declared.records.Record.{Record}
@@ -12,28 +11,7 @@ use Rattle.dt_record.specs.Lawful.{FitsRetire, FitsList, FitsBody, FitsRecord}
 use Rattle.dt_record.specs.Tags.{tag_number}
 use Rattle.dt_record.specs.Spelling.{half, word, double, retire_bytes}
 use Rattle.dt_record_bytes.specs.WideAnswer.{body_bytes_with, wide_bytes_with, IsWroteByte}
-
--- Reading one field, and then what comes next.
-
-with_byte : {A : Type 0} → List ℕ → (ℕ → List ℕ → A) → A
-with_byte [] next = next 0 []
-with_byte (x ∷ xs) next = next x xs
-
-with_half : {A : Type 0} → List ℕ → (ℕ → List ℕ → A) → A
-with_half bytes next = next (from_le_bytes w16 (take 2 bytes)) (drop 2 bytes)
-
-with_word : {A : Type 0} → List ℕ → (ℕ → List ℕ → A) → A
-with_word bytes next = next (from_le_bytes w32 (take 4 bytes)) (drop 4 bytes)
-
-with_double : {A : Type 0} → List ℕ → (ℕ → List ℕ → A) → A
-with_double bytes next = next (from_le_bytes w64 (take 8 bytes)) (drop 8 bytes)
-
-with_doubles : {A : Type 0} → ℕ → List ℕ → (List ℕ → List ℕ → A) → A
-with_doubles zero bytes next = next [] bytes
-with_doubles (suc n) bytes next = with_double bytes (λ x rest. with_doubles n rest (λ xs more. next (x ∷ xs) more))
-
-with_line : {A : Type 0} → List ℕ → (List ℕ → List ℕ → A) → A
-with_line bytes next = next (take 64 bytes) (drop 64 bytes)
+use Rattle.dt_record_bytes.specs.WideReading.{with_byte, with_half, with_word, with_double, with_doubles, with_line, with_retire, parts, read_trap, read_regs, read_csrs, read_load, read_store, read_atomic, read_drain, read_refill, read_body, whole, joined, read_fields}
 
 byte_again : {A : Type 0} (x : ℕ) (xs : List ℕ) (next : ℕ → List ℕ → A) → with_byte (x ∷ xs) next ≡ next x xs
 unfolding with_byte
@@ -68,64 +46,11 @@ unfolding with_line
 line_again xs rest next fits =
     ap (λ (z : List ℕ). next z (drop 64 (xs ++ rest))) (take_at xs rest 64 fits.count_is) ∙ ap (λ (z : List ℕ). next xs z) (drop_at xs rest 64 fits.count_is)
 
-with_retire : {A : Type 0} → List ℕ → (Retire → List ℕ → A) → A
-with_retire bytes next =
-    with_double bytes (λ pc a. with_word a (λ bits b. with_double b (λ value c. next (record { pc = pc; bits = bits; value = value }) c)))
-
 retire_again : {A : Type 0} (r : Retire) (rest : List ℕ) (next : Retire → List ℕ → A) → FitsRetire r → with_retire (retire_bytes r ++ rest) next ≡ next r rest
 unfolding with_retire
 retire_again r rest next fits =
     let regrouped : retire_bytes r ++ rest ≡ double r.pc ++ (word r.bits ++ (double r.value ++ rest)) = simp append_assoc in
     ap (λ (z : List ℕ). with_retire z next) regrouped ∙ double_again r.pc _ _ fits.pc ∙ word_again r.bits _ _ fits.bits ∙ double_again r.value rest _ fits.value
-
--- Reading a body of each kind: the body, the byte for whether an atomic wrote, and the rest.
-
-abbrev Parts : Type 0
-Parts = Body × ℕ × List ℕ
-
-abbrev parts : Body → ℕ → List ℕ → Parts
-parts body wrote_byte rest = (body, wrote_byte, rest)
-
-read_trap : List ℕ → Parts
-read_trap bytes =
-    with_double bytes (λ pc a. with_word a (λ bits b. with_double b (λ cause c. with_double c (λ tval d. parts (Trap pc bits cause tval) 0 d))))
-
-read_regs : List ℕ → Parts
-read_regs bytes = with_double bytes (λ pc a. with_doubles 31 a (λ x b. parts (Regs pc x) 0 b))
-
-read_csrs : List ℕ → Parts
-read_csrs bytes = with_byte bytes (λ mode a. with_doubles 17 a (λ v b. parts (Csrs mode v) 0 b))
-
-read_load : List ℕ → Parts
-read_load bytes = with_retire bytes (λ r a. with_double a (λ at b. with_double b (λ paddr c. parts (Load r at paddr) 0 c)))
-
-read_store : List ℕ → Parts
-read_store bytes =
-    with_double bytes (λ pc a. with_word a (λ bits b. with_double b (λ paddr c. with_double c (λ value d. parts (Store pc bits paddr value) 0 d))))
-
-read_atomic : List ℕ → Parts
-read_atomic bytes =
-    with_retire bytes (λ r a. with_double a (λ paddr b. with_byte b (λ width c. with_byte c (λ w d. with_double d (λ new e. parts (Atomic r paddr width (not (w == 0)) new) w e)))))
-
-read_drain : List ℕ → Parts
-read_drain bytes =
-    with_double bytes (λ line a. with_double a (λ mask b. with_half b (λ count c. with_line c (λ xs d. parts (Drain line mask count xs) 0 d))))
-
-read_refill : List ℕ → Parts
-read_refill bytes = with_double bytes (λ line a. with_line a (λ xs b. parts (Refill line xs) 0 b))
-
-read_body : ℕ → List ℕ → Parts
-read_body tag bytes =
-    if tag == 1 then with_retire bytes (λ r rest. parts (Commit r) 0 rest)
-    else if tag == 2 then read_trap bytes
-    else if tag == 3 then read_regs bytes
-    else if tag == 4 then read_csrs bytes
-    else if tag == 5 then read_load bytes
-    else if tag == 6 then read_store bytes
-    else if tag == 7 then read_atomic bytes
-    else if tag == 8 then read_drain bytes
-    else if tag == 9 then read_refill bytes
-    else parts Beat 0 bytes
 
 trap_again : (pc bits cause tval : ℕ) (rest : List ℕ) → FitsBody (Trap pc bits cause tval) → read_trap (body_bytes_with 0 (Trap pc bits cause tval) ++ rest) ≡ parts (Trap pc bits cause tval) 0 rest
 unfolding read_trap
@@ -184,21 +109,6 @@ body_again (Atomic r paddr width wrote new) w rest fits is = atomic_again r padd
 body_again (Drain line mask count xs) w rest fits is = drain_again line mask count xs rest fits ∙ ap (λ (n : ℕ). parts (Drain line mask count xs) n rest) (sym is)
 body_again (Refill line xs) w rest fits is = refill_again line xs rest fits ∙ ap (λ (n : ℕ). parts (Refill line xs) n rest) (sym is)
 body_again Beat w rest fits is = ap (λ (n : ℕ). parts Beat n rest) (sym is)
-
--- A record, the byte for whether an atomic wrote, and the rest.
-
-abbrev pub Whole : Type 0
-Whole = Record × ℕ × List ℕ
-
-abbrev pub whole : Record → ℕ → List ℕ → Whole
-whole r wrote_byte rest = (r, wrote_byte, rest)
-
-abbrev joined : ℕ → ℕ → Parts → Whole
-joined stamp hart p = whole (record { stamp = stamp; hart = hart; body = p.0 }) p.1 p.2
-
-pub read_fields : List ℕ → Whole
-read_fields bytes =
-    with_byte bytes (λ tag a. with_byte a (λ hart b. with_double b (λ stamp c. joined stamp hart (read_body tag c))))
 
 pub fields_again : (r : Record) (w : ℕ) (rest : List ℕ) → FitsRecord r → IsWroteByte w r.body → read_fields (wide_bytes_with w r ++ rest) ≡ whole r w rest
 unfolding read_fields wide_bytes_with

@@ -6,7 +6,7 @@ use Rattle.dt_record.specs.Spelling.{varint, varint_within, present_bytes}
 use Rattle.dt_short_bytes.specs.declared.short_pieces.Stop.{Stop}
 use Rattle.dt_short_bytes.specs.declared.short_pieces.Stop.TheVariants.{Short, Bad}
 use Rattle.dt_short_bytes.specs.ShortReading.{◌>>=◌, bad, groups_at, later_at, field_at}
-use Rattle.dt_short_bytes.specs.ShortGrammar.{IsBytes, Reads, Breaks, IsFree, IsInhabited, Behind, Reads-same, Reads-cons, Breaks-first, free-same}
+use Rattle.dt_short_bytes.proofs.ShortGrammar.{IsBytes, Reads, Breaks, IsFree, IsInhabited, Behind, Reads-same, Reads-cons, Breaks-first, free-same}
 
 -- a number that isn't 0, in at most so many bytes after the first
 pub record Nonzero (more : ℕ) (text : List ℕ) (n : ℕ) : Type 0 where

@@ -7,7 +7,7 @@ use Rattle.dt_record.specs.declared.kinds.Kind.{Kind}
 use Rattle.dt_record.specs.declared.kinds.Kind.TheVariants as kinds
 use Rattle.dt_record.specs.Kinds.{kind_number, kind_with}
 use Rattle.dt_short_bytes.specs.ShortReading.{◌>>=◌, bad, kind_or_bad, kind_at, byte_from, presence_at}
-use Rattle.dt_short_bytes.specs.ShortGrammar.{IsBytes, Reads, IsFree, IsInhabited, Behind, Reads-cons, Breaks-first}
+use Rattle.dt_short_bytes.proofs.ShortGrammar.{IsBytes, Reads, IsFree, IsInhabited, Behind, Reads-cons, Breaks-first}
 
 -- ---- the tag
 

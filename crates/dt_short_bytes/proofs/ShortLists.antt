@@ -9,8 +9,8 @@ use Rattle.dt_record.specs.Lawful.{FitsList}
 use Rattle.dt_record.specs.Spelling.{present_bytes, presence}
 use Rattle.dt_short_bytes.specs.declared.short_pieces.Stop.TheVariants.{Short}
 use Rattle.dt_short_bytes.specs.ShortReading.{◌>>=◌, field_at, fields_at, padded, padded_at, line_at}
-use Rattle.dt_short_bytes.specs.ShortGrammar.{IsBytes, IsBytes-back, IsBytes-front, Reads, IsFree, IsInhabited, Then, Ends, Ends-reads, Ends-free, Ends-inhabited, Then-free, Then-inhabited, Then-reads, Reads-same, free-same}
-use Rattle.dt_short_bytes.specs.ShortVarint.{FieldText, Field-free, Field-inhabited, field_reads}
+use Rattle.dt_short_bytes.proofs.ShortGrammar.{IsBytes, IsBytes-back, IsBytes-front, Reads, IsFree, IsInhabited, Then, Ends, Ends-reads, Ends-free, Ends-inhabited, Then-free, Then-inhabited, Then-reads, Reads-same, free-same}
+use Rattle.dt_short_bytes.proofs.ShortVarint.{FieldText, Field-free, Field-inhabited, field_reads}
 
 -- so many numbers with these presence bits
 pub record FieldsText (count bits : ℕ) (text : List ℕ) (numbers : List ℕ) : Type 0 where

@@ -17,8 +17,8 @@ use Rattle.dt_record.specs.declared.kinds.Kind.TheVariants as kinds
 use Rattle.dt_record.specs.Kinds.{kind_number, kind_of}
 use Rattle.dt_short_bytes.specs.ShortForms.{field_count, line_count, Form, form_bytes, FitsForm, MayFollow}
 use Rattle.dt_short_bytes.specs.ShortReading.{padded, below, flag_at, whole_line, spread, retire_at, body_at, if_lawful, record_at}
-use Rattle.dt_short_bytes.specs.ShortSpread.{masked_count, masked_each, spread_length, spread_each, spread_back, masked_back}
-use Rattle.dt_short_bytes.specs.ShortChain.{read_of_form}
+use Rattle.dt_short_bytes.proofs.ShortSpread.{masked_count, masked_each, spread_length, spread_each, spread_back, masked_back}
+use Rattle.dt_short_bytes.proofs.ShortChain.{read_of_form}
 
 abbrev pub form_of : ℕ → Record → Form
 form_of last r = record { kind = kind_of r.body; hart = r.hart; later = r.stamp - last; numbers = number_fields r.body; line = line_bytes r.body }
