@@ -30,7 +30,7 @@ use Rattle.dt_rules.specs.declared.misfits.Misfit.{Misfit}
 use Rattle.dt_sources.specs.Choice.{LeastChoiceGoesOn, LeastChoiceIsLeast, then_action}
 use Rattle.dt_step.specs.declared.plans.Planned.{Planned}
 use Rattle.dt_step.specs.declared.plans.Planned.TheVariants.{Done, NeedsLoad, NeedsStore, NeedsAtomic, Csr, Returns, Fences, FenceI, FencesPages, Raises}
-use Rattle.dt_traps.specs.Instructions.{atomic_access}
+use Rattle.dt_access.specs.Translating.{atomic_access}
 use Rattle.dt_versions.specs.History.{are_in_order}
 use Rattle.dt_walk.specs.declared.arguments.Access.TheVariants as access
 use Rattle.dt_judge.specs.declared.atomics.Said.{Said}
