@@ -1,3 +1,4 @@
 pub mod Checks
 pub mod Newer
 pub mod Reading
+pub mod Worked

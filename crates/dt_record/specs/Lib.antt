@@ -21,5 +21,6 @@ pub mod Streams
 pub mod Tags
 pub mod Versions
 pub mod Visible
+pub mod Worked
 pub mod WorkedFile
 pub mod Writes

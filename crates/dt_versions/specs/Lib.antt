@@ -4,3 +4,4 @@ pub mod History
 pub mod Laws
 pub mod Spans
 pub mod Words
+pub mod Worked
