@@ -1,4 +1,4 @@
-use Rattle.std.proofs.Common.{ℕ, ◌≡◌, ◌≤◌, ◌<◌, true, false, List, [], ◌∷◌, ◌++◌, length, Option, Some, None, All, IfSome, refl, sym, subst, arith}
+use Rattle.std.proofs.Common.{◌≡◌, ◌≤◌, ◌<◌, true, false, List, [], ◌∷◌, ◌++◌, length, Option, Some, None, IfSome, refl, sym, subst, arith}
 use Rattle.std.proofs.lemmas.List.{length-append}
 use Rattle.std.proofs.lemmas.List.Elements.{All-weaker}
 use Rattle.std.proofs.lemmas.Bool.Decides.{nat_tests}
@@ -7,7 +7,7 @@ use Rattle.dt_record.specs.Keys.{KeyBelow}
 use Rattle.dt_stores.specs.GoingOn.{AreDrainedBelow, DrainsBelow, DrainsStayBelow}
 use Rattle.dt_record.specs.Actions.{Action, Held, held_of, Stored, Drained, Fenced, Loaded, Atomic, ww_fences, wr_fences}
 use Rattle.dt_stores.specs.Kept.{Kept}
-use Rattle.dt_stores.specs.Standing.{StandsFor as Keeps, GainsAction}
+use Rattle.dt_stores.specs.Standing.{GainsAction}
 use Rattle.dt_hart.specs.Counting.{IsCounted, CountsOn, key_after}
 
 -- A store buffer counts no more fences than its hart had records.

@@ -1,4 +1,4 @@
-use Rattle.std.specs.Prelude.{ℕ, ◌+◌, ◌≤◌, List, length}
+use Rattle.std.specs.Prelude.{◌+◌, ◌≤◌, List, length}
 use Rattle.dt_record.specs.declared.keys.Key.{Key}
 use Rattle.dt_record.specs.Actions.{Action}
 use Rattle.dt_stores.specs.GoingOn.{AreDrainedBelow}
