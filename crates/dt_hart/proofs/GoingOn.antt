@@ -45,6 +45,9 @@ kept a seq stamp accesses reserved windows = record {
   last_read = accesses.last_read;
   reserved = reserved;
   windows = windows;
+  keeps = accesses.local.keeps;
+  from = accesses.local.from;
+  past = accesses.local.past;
 }
 
 -- the laws of the reference that this rests on

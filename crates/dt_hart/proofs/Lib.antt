@@ -9,6 +9,7 @@ mod Floors
 mod GoingOn
 mod JudgedOn
 mod KnowingOn
+mod MarksOn
 mod Members
 mod OwnKeys
 mod ReadKeys

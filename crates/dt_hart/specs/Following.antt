@@ -11,7 +11,7 @@ use Rattle.dt_record.specs.Actions.{Action, Fenced, Atomic as Accessed, last_rea
 use Rattle.dt_record.specs.Keys.{key_below, key_of}
 use Rattle.dt_record.specs.Lawful.{is_in_ram}
 use Rattle.dt_record.specs.Writes.{body_write}
-use Rattle.dt_local.specs.LocalMemory.{newest_of, greater}
+use Rattle.dt_local.specs.LocalMemory.{LocalMemory, newest_of, greater}
 use Rattle.dt_reference.specs.HartActions.{body_action, width_of, reads_memory}
 use Rattle.dt_reference.specs.Meaning.{meaning_of}
 use Rattle.dt_sources.specs.Knowing.{write_key, covering_key}
@@ -55,10 +55,15 @@ pub record Follows (old new : Accesses) (key : Key) (body : Body) (sources : Sou
   pub floor : new.floor ≡ max old.floor (floor_asked old.last_read (body_action key body))
   pub last_read : new.last_read ≡ max old.last_read (last_read (option_to_list (body_action key body)))
 
+-- local memory, nothing reserved
+abbrev pub known_in : LocalMemory → LocalMemory
+known_in l = record l { reserved = None }
+
 -- what later accesses ask for is the same
 pub record IsKept (old new : Accesses) : Type 0 where
   pub stores : new.stores ≡ old.stores
   pub keys : new.local.keys ≡ old.local.keys
+  pub local : known_in new.local ≡ known_in old.local
   pub floor : new.floor ≡ old.floor
   pub last_read : new.last_read ≡ old.last_read
 

@@ -2,6 +2,7 @@ pub mod Counting
 pub mod Fences
 pub mod Following
 pub mod HartView
+pub mod Marks
 pub mod OwnWrites
 pub mod Reserving
 pub mod Settings

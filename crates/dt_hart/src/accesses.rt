@@ -12,6 +12,7 @@ ghost use Rattle.dt_stores.specs.GoingOn.{AreDrainedBelow};
 ghost use Rattle.dt_stores.specs.Standing.{GainsAction, StandsFor as Keeps};
 ghost use Rattle.dt_hart.specs.Counting.{CountsOn};
 ghost use Rattle.dt_hart.specs.Following.{Follows, IsKept, read_key};
+ghost use Rattle.dt_hart.specs.Marks.{KeepsAccessMarks};
 ghost use Rattle.dt_hart.specs.Taking.{is_placed, is_access_place, is_fenced};
 
 use crate::atomics::{AtomicOrder, order_of};
@@ -43,6 +44,7 @@ impl Accesses {
         requires below { AreDrainedBelow (key_of seq event.now) self.old.stores.held }
         ensures follows { OnOk result (Follows self.old self.new (key_of seq event.now) event.now.body sources) }
         ensures counted { OnOk result (CountsOn (key_of seq event.now) self.old.stores self.new.stores) }
+        ensures marks { OnOk result (KeepsAccessMarks self.old self.new) }
         ensures unchanged { OnErr result (IsKept self.old self.new) }
     {
         loads_keep_stores();
@@ -94,6 +96,7 @@ impl Accesses {
         ensures keys { self.new.local.keys ≡ self.old.local.keys }
         ensures floor { self.new.floor ≡ max self.old.floor (if rr then self.old.last_read else 0) }
         ensures last_read { self.new.last_read ≡ self.old.last_read }
+        ensures marks { KeepsAccessMarks self.old self.new }
     {
         self.stores.fence(ww, wr);
         self.floor = raised(self.floor, rr, self.last_read);
@@ -112,6 +115,7 @@ impl Accesses {
         ensures noted { OnOk result ((byte : ℕ) → newest_of self.new.local byte ≡ greater (newest_of self.old.local byte) (read_key addr (take width sources.from) byte)) }
         ensures floor { self.new.floor ≡ self.old.floor }
         ensures last_read { OnOk result (self.new.last_read ≡ max self.old.last_read at) }
+        ensures marks { OnOk result (KeepsAccessMarks self.old self.new) }
         ensures unchanged { OnErr result (IsKept self.old self.new) }
     {
         note_read(&mut self.local, addr, &sources.from[..usize::from(width)])?;
@@ -135,6 +139,7 @@ impl Accesses {
         ensures noted { OnOk result ((byte : ℕ) → newest_of self.new.local byte ≡ greater (newest_of self.old.local byte) (option_map_or (covering_key byte) own (if order.reads then read_key addr (take width sources.from) byte else None))) }
         ensures floor { OnOk result (self.new.floor ≡ max self.old.floor (if order.acquires then stamp else 0)) }
         ensures last_read { OnOk result (self.new.last_read ≡ max self.old.last_read (if order.reads then stamp else 0)) }
+        ensures marks { OnOk result (KeepsAccessMarks self.old self.new) }
         ensures unchanged { OnErr result (IsKept self.old self.new) }
     {
         let from = &sources.from[..usize::from(width)];
@@ -153,6 +158,7 @@ impl Accesses {
         ensures noted { OnOk result ((byte : ℕ) → newest_of self.new.local byte ≡ greater (newest_of self.old.local byte) (if is_noted line mask byte then Some key else None)) }
         ensures floor { self.new.floor ≡ self.old.floor }
         ensures last_read { self.new.last_read ≡ self.old.last_read }
+        ensures marks { OnOk result (KeepsAccessMarks self.old self.new) }
         ensures unchanged { OnErr result (IsKept self.old self.new) }
     {
         drains_stay_below();

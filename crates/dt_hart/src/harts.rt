@@ -4,6 +4,7 @@ ghost use Rattle.dt_record.specs.Lawful.{IsLawful};
 ghost use Rattle.dt_reference.specs.HartActions.{action_of};
 ghost use Rattle.dt_reference.specs.Run.{CanFollow, after_record};
 ghost use Rattle.dt_step.specs.State.{IsArch, IsReachable};
+ghost use Rattle.dt_hart.specs.Marks.{KeepsMarks};
 ghost use Rattle.dt_hart.specs.OwnWrites.{GoesOn};
 ghost use Rattle.dt_hart.specs.Settings.{Setting, at_first, after};
 ghost use Rattle.dt_hart.specs.Standing.{StandsFor};
@@ -26,14 +27,14 @@ use std::marker::Model;
 /// One hart while its records are judged.
 #[derive(Debug, Drop)]
 pub struct Hart {
-    arch: Arch,
-    seq: u32,
+    pub(crate) arch: Arch,
+    pub(crate) seq: u32,
     /// The stamp of the last record, 0 before the first.
-    stamp: u64,
-    accesses: Accesses,
+    pub(crate) stamp: u64,
+    pub(crate) accesses: Accesses,
     /// The line of the reservation, and the key of the LR that made it.
-    reserved: Option<(u64, Key)>,
-    windows: Windows,
+    pub(crate) reserved: Option<(u64, Key)>,
+    pub(crate) windows: Windows,
 }
 
 impl Model for Hart {
@@ -53,6 +54,9 @@ impl Model for Hart {
       last_read = h.accesses.last_read;
       reserved = h.reserved;
       windows = h.windows;
+      keeps = h.accesses.local.keeps;
+      from = h.accesses.local.from;
+      past = h.accesses.local.past;
     } };
 
     ghost invariant = { λ h. IsArch h.arch × IsReachable h.arch × IsCounted h.accesses.stores (record { stamp = h.stamp; hart = h.arch.hart; seq = h.seq }) };
@@ -159,6 +163,7 @@ impl Hart {
         ensures number { self.new.arch.hart ≡ self.old.arch.hart }
         ensures counted { OnOk result (self.new.seq ≡ self.old.seq + 1) }
         ensures stamp { OnOk result (self.new.stamp ≡ event.now.stamp) }
+        ensures marks { OnOk result (KeepsMarks self.old self.new) }
         ensures unchanged { OnErr result (self.new ≡ self.old) }
     {
         state_goes_on();

@@ -8,6 +8,7 @@ mod atomics;
 mod effects;
 mod harts;
 mod laws;
+mod marks;
 mod notes;
 mod places;
 #[cfg(test)]
@@ -15,4 +16,5 @@ mod tests;
 
 pub use harts::Hart;
 pub use laws::{fences_are_earlier, known_at_next};
+pub use marks::{HartMark, marks_go_on};
 pub use places::is_placed;

@@ -2,11 +2,12 @@ ghost use Rattle.std.specs.Prelude.{◌≡◌, ℕ, ◌+◌, ◌%◌, ◌==◌, 
 ghost use Rattle.std.specs.Int.{bit_at};
 ghost use Rattle.std.specs.Option.{option_map_or};
 ghost use Rattle.dt_local.specs.LocalMemory.{newest_of, is_noted, greater};
+ghost use Rattle.dt_local.specs.Marks.{KeepsMarks};
 ghost use Rattle.dt_record.specs.Lawful.{is_in_ram, is_ram_line};
 ghost use Rattle.dt_record.specs.declared.keys.Key.{Key};
 ghost use Rattle.dt_record.specs.declared.origins.Origin.TheVariants as origin;
 ghost use Rattle.dt_sources.specs.Knowing.{covering_key, write_key};
-ghost use Rattle.dt_hart.specs.Following.{read_key};
+ghost use Rattle.dt_hart.specs.Following.{known_in, read_key};
 
 use dt_local::Local;
 use dt_record::{Key, Origin, Write};
@@ -25,7 +26,8 @@ pub fn note_atomic(
     requires on_one_line { addr % 64 + length from.now ≤ 64 }
     requires line { IfSome own (λ w. IsTrue (is_ram_line w.line)) }
     ensures noted { OnOk result ((byte : ℕ) → newest_of local.new byte ≡ greater (newest_of local.old byte) (option_map_or (covering_key byte) own (if reads then read_key addr from.now byte else None))) }
-    ensures unchanged { OnErr result (local.new.keys ≡ local.old.keys) }
+    ensures marks { OnOk result (KeepsMarks (known_in local.old) (known_in local.new)) }
+    ensures unchanged { OnErr result (known_in local.new ≡ known_in local.old) }
 {
     match own {
         Some(w) => note_own(local, w.key, w.line, w.mask),
@@ -38,7 +40,8 @@ pub fn note_atomic(
 fn note_own(local: &mut Local, key: Key, line: u64, mask: u64) -> Result<(), AllocError>
     requires { IsTrue (is_ram_line line) }
     ensures noted { OnOk result ((byte : ℕ) → newest_of local.new byte ≡ greater (newest_of local.old byte) (if is_noted line mask byte then Some key else None)) }
-    ensures unchanged { OnErr result (local.new.keys ≡ local.old.keys) }
+    ensures marks { OnOk result (KeepsMarks (known_in local.old) (known_in local.new)) }
+    ensures unchanged { OnErr result (known_in local.new ≡ known_in local.old) }
 {
     local.reserve(line, mask)?;
     local.note(line, mask, &[key; 64]);
@@ -50,7 +53,8 @@ pub fn note_read(local: &mut Local, addr: u64, from: &[Origin]) -> Result<(), Al
     requires in_ram { IsTrue (is_in_ram addr) }
     requires on_one_line { addr % 64 + length from.now ≤ 64 }
     ensures noted { OnOk result ((byte : ℕ) → newest_of local.new byte ≡ greater (newest_of local.old byte) (read_key addr from.now byte)) }
-    ensures unchanged { OnErr result (local.new.keys ≡ local.old.keys) }
+    ensures marks { OnOk result (KeepsMarks (known_in local.old) (known_in local.new)) }
+    ensures unchanged { OnErr result (known_in local.new ≡ known_in local.old) }
 {
     let place = (addr % 64) as usize;
     let line = addr - addr % 64;

@@ -1,4 +1,7 @@
-use crate::{Hart, is_placed, known_at_next};
+ghost use Rattle.std.specs.Prelude.{OnOk};
+ghost use Rattle.dt_hart.specs.Marks.{KeepsMarks};
+
+use crate::{Hart, is_placed, known_at_next, marks_go_on};
 use dt_record::{Body, Key, Origin, Record, Retire, Sources, lawful};
 use dt_reference::can_follow;
 use std::process::Abort;
@@ -190,5 +193,50 @@ fn fences_begin_windows(rt: HostRuntime) -> Result<(), Fail> {
         );
         assert_eq!(rt; kept, (instructions, page, other), "{bits:x}");
     }
+    Ok(())
+}
+
+/// The cycles of the last fences that cover a byte of page 0 and one of page 1.
+fn fenced(hart: &Hart) -> (u64, u64) {
+    let windows = hart.windows();
+    (cycle(windows.page(8)), cycle(windows.page(4096)))
+}
+
+fn cycle(fence: Option<Key>) -> u64 {
+    fence.map_or(0, |k| k.stamp)
+}
+
+/// Takes a fence.
+fn take_fence(rt: &impl Abort, hart: &mut Hart, stamp: u64, bits: u32) -> Result<(), Fail>
+    ensures { OnOk result (KeepsMarks hart.old hart.new) }
+{
+    let event = Record {
+        stamp,
+        hart: hart.number(),
+        body: commit(0x8000_0000, bits, 0),
+    };
+    assert!(rt; lawful(&event) && is_placed(&event));
+    assert!(rt; hart.stamp() <= stamp && hart.seq() < 4_194_304);
+    assert!(rt; can_follow(hart.arch(), &event));
+    hart.take(&event, NONE)?;
+    Ok(())
+}
+
+/// A fence of the page of address 0, and one of all pages that is undone.
+#[test]
+fn a_fence_counts_again_after_an_undo(rt: HostRuntime) -> Result<(), Fail> {
+    marks_go_on();
+    let mut hart = Hart::new(rt.alloc(), 0, false);
+    take_fence(&rt, &mut hart, 4, 0x1202_8073)?;
+    let m = hart.mark();
+    take_fence(&rt, &mut hart, 5, 0x1200_0073)?;
+    assert_eq!(rt; fenced(&hart), (5, 5));
+    let copy = hart.copy(rt.alloc())?;
+    hart.undo_to(m);
+    assert_eq!(rt; fenced(&hart), (4, 0));
+    assert_eq!(rt; (hart.seq(), hart.stamp()), (1, 4));
+    hart.forget(m);
+    assert_eq!(rt; fenced(&hart), (4, 0));
+    assert_eq!(rt; (fenced(&copy), copy.seq()), ((5, 5), 2));
     Ok(())
 }

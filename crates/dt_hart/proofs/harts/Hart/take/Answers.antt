@@ -3,10 +3,11 @@ use Rattle.dt_record.specs.Keys.{key_of}
 use Rattle.dt_reference.specs.HartActions.{action_of}
 use Rattle.dt_hart.specs.Counting.{IsCounted}
 use Rattle.dt_hart.specs.HartView.{HartView}
+use Rattle.dt_hart.specs.Marks.{KeepsMarks}
 use Rattle.dt_hart.specs.Standing.{StandsFor}
 use Rattle.dt_hart.specs.Taking.{is_placed}
 use Rattle.dt_hart.proofs.Counted.{counts_later}
-use Rattle.dt_hart.proofs.GoingOn.{Laws, goes_on}
+use Rattle.dt_hart.proofs.GoingOn.{Laws, goes_on, kept}
 use Rattle.dt_hart.proofs.SameHart.{hart_stays}
 use Rattle.dt_hart.proofs.harts.Hart.take.Goals as goal
 
@@ -40,3 +41,9 @@ invariant_of-self-2 c =
     let number = ap (λ a. a.hart) c.advance.ensures.state ∙ hart_stays c.self.inside.arch c.args.event.now.body ∙ ap (λ (v : HartView). v.arch.hart) c.self.view_is in
     let Counted : ℕ → Type 0 = λ hart. IsCounted c.take_effects.new.accesses.stores (record { stamp = c.args.event.now.stamp; hart = hart; seq = c.self.inside.seq + 1 }) in
     (c.advance.ensures.arch, c.advance.ensures.reachable c.self.invariant.1, subst Counted (c.requires.its ∙ sym number) c.in_ok-take_effects.ensures.counted)
+
+pub returns-clause-marks : goal.returns-clause-marks
+returns-clause-marks c =
+    let effects = c.in_ok-take_effects.ensures in
+    subst (λ (v : HartView). KeepsMarks v (kept c.advance.new.a (c.self.inside.seq + 1) c.args.event.now.stamp c.take_effects.new.accesses c.reserved_by-self-inside.result c.take_effects.new.windows)) c.self.view_is
+    (record { stores = effects.marks.stores; local = effects.marks.local; windows = effects.windows_marks })
