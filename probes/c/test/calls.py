@@ -3,6 +3,8 @@
 The bytes are spelled here by docs/PROBE-FORMAT.md. What is lawful, the second checker's reader decides.
 """
 
+import contextlib
+import io
 import os
 import struct
 import subprocess
@@ -12,7 +14,9 @@ from typing import NamedTuple, Optional, Sequence, Union
 
 PROBES = os.path.dirname(os.path.dirname(os.path.dirname(os.path.abspath(__file__))))
 sys.path.insert(0, os.path.join(os.path.dirname(PROBES), "checks"))
+sys.path.insert(0, os.path.join(PROBES, "python"))
 # pylint: disable=wrong-import-position
+from difftest_probes.commands.main import main as package  # noqa: E402
 from second_opinion.probe_file import ProbeFile, Refused, read_probe_file  # noqa: E402
 
 # The program with the usual buffers, and one with buffers of three records.
@@ -23,6 +27,7 @@ CALL_SMALL_WRITER = os.environ.get("CALL_SMALL_WRITER", os.path.join(BUILT, "cal
 OK, UNLAWFUL, STAMP_FELL, FULL, IO, CLOSED = range(6)
 SV48, VERSION_2 = 1, 2
 RAM_START, RAM_END = 0x8000_0000, 0x8400_0000
+END_BYTES = 9
 
 # A number, or the bytes of a line.
 Field = Union[int, bytes]
@@ -101,6 +106,17 @@ def spell_file(harts: int, flags: int, calls: Sequence[Call]) -> bytes:
         out.append(call.spell_short(last_stamps.get(call.hart, 0)) if version == 2 else call.spell())
         last_stamps[call.hart] = call.stamp
     return b"".join(out) + struct.pack("<BQ", 255, len(calls))
+
+
+def close(front: bytes, path: str, *, fit: bool = False) -> bytes:
+    """What `close` of the Python package makes of a file that stops here, or `cut --fit`."""
+    with open(path, "wb") as out:
+        out.write(front)
+    words = ["cut", "--fit", path, path] if fit else ["close", path]
+    with contextlib.redirect_stdout(io.StringIO()):
+        assert package(words) == 0
+    with open(path, "rb") as closed:
+        return closed.read()
 
 
 def read(file: bytes) -> Optional[ProbeFile]:

@@ -7,10 +7,12 @@ import tempfile
 import threading
 import unittest
 
-from calls import (CALL_SMALL_WRITER, CALL_WRITER, CLOSED, FULL, IO, OK, RAM_START, STAMP_FELL, UNLAWFUL,
-                   VERSION_2, Answer, Call, answer, read, run, spell_file, write)
+from calls import (CALL_SMALL_WRITER, CALL_WRITER, CLOSED, END_BYTES, FULL, IO, OK, RAM_START, STAMP_FELL,
+                   UNLAWFUL, VERSION_2, Answer, Call, Field, answer, close, read, run, spell_file, write)
 
 MOST_RECORDS, MOST_WRITES = 4_194_304, 1_048_576
+# Whether files of that many records are read in Python, which takes a while.
+HAS_LIMITS = os.environ.get("LIMITS", "1") == "1"
 BEATS = [Call("beat", hart, stamp) for stamp in range(20) for hart in range(2)]
 
 
@@ -27,6 +29,7 @@ class Ends(unittest.TestCase):
         self.folder = tempfile.TemporaryDirectory()
         self.addCleanup(self.folder.cleanup)
         self.path = os.path.join(self.folder.name, "probes")
+        self.closed = os.path.join(self.folder.name, "closed")
 
     def content(self) -> bytes:
         """The bytes of the file."""
@@ -35,16 +38,23 @@ class Ends(unittest.TestCase):
 
     def test_limit_of_records(self) -> None:
         lines = [f"open 2 0 {self.path}", f"beats 2 {MOST_RECORDS + 1}", "beat 0 9999999", "close", "close"]
-        opened, many, more, close, again = answers_to(lines)
+        opened, many, more, closing, again = answers_to(lines)
         # Both harts have come to the same last cycle, and its two records are dropped.
         stamps = MOST_RECORDS // 2 - 1
         text = "the file is at its limit of records, and has ended settled"
         self.assertEqual(opened, (OK, 0, ""))
-        self.assertEqual([many, more, close], [(FULL, 2 * stamps, text)] * 3)
+        self.assertEqual([many, more, closing], [(FULL, 2 * stamps, text)] * 3)
         self.assertEqual(again.status, CLOSED)
         beats = b"".join(struct.pack("<BBQBBQ", 10, 0, stamp, 10, 1, stamp) for stamp in range(stamps))
         end = struct.pack("<BQ", 255, 2 * stamps)
-        self.assertTrue(self.content() == spell_file(2, 0, [])[:16] + beats + end)
+        header = spell_file(2, 0, [])[:-END_BYTES]
+        self.assertTrue(self.content() == header + beats + end)
+        if not HAS_LIMITS:
+            return
+        # So `close` ends the file of the records that fit.
+        front = header + beats + struct.pack("<BBQBBQ", 10, 0, stamps, 10, 1, stamps)
+        self.assertEqual(len(front), len(header) + 10 * MOST_RECORDS)
+        self.assertTrue(self.content() == close(front, self.closed))
 
     def test_all_records_that_a_file_may_have(self) -> None:
         answers = answers_to([f"open 1 0 {self.path}", f"beats 1 {MOST_RECORDS}", "beat 0 1", "close"])
@@ -64,7 +74,25 @@ class Ends(unittest.TestCase):
             # The last cycle had a drain and an atomic.
             text = "the file is at its limit of drains and writing atomics, and has ended settled"
             self.assertEqual(answers[3:], [(FULL, MOST_WRITES - 1, text)] * 2)
-            self.assertEqual(self.content()[-9:], struct.pack("<BQ", 255, MOST_WRITES - 1))
+            self.assertEqual(self.content()[-END_BYTES:], struct.pack("<BQ", 255, MOST_WRITES - 1))
+            if HAS_LIMITS:
+                self.assert_ended_by_package(no_write, last)
+
+    def assert_ended_by_package(self, no_write: Call, beyond: Call) -> None:
+        """So `close` ends the file of the records that fit, or `cut --fit` that with the one beyond."""
+        fields: "list[Field]" = [RAM_START, 1, 1, bytes([1, *bytes(63)])]
+        first, other = (Call("drain", 0, stamp, fields).spell_short(0) for stamp in (0, 1))
+        front = spell_file(1, VERSION_2, [])[:-END_BYTES] + first + other * (MOST_WRITES - 1)
+        front += no_write.spell_short(MOST_WRITES - 1)
+        is_fit = beyond.kind == "atomic"
+        if is_fit:
+            front += beyond.spell_short(MOST_WRITES - 1)
+        self.assertTrue(self.content() == close(front, self.closed, fit=is_fit))
+
+    def assert_closed(self, calls: "list[Call]") -> None:
+        """The file of two harts is what the package's `close` makes of these records."""
+        front = spell_file(2, 0, calls)[:-END_BYTES]
+        self.assertEqual(self.content(), close(front, self.closed))
 
     def test_sleeping_hart(self) -> None:
         """A hart without a record: all is kept back, and all is in the file where it is closed."""
@@ -72,9 +100,11 @@ class Ends(unittest.TestCase):
         self.assertEqual(write(2, 0, calls, CALL_SMALL_WRITER)[1], spell_file(2, 0, calls))
         run([f"open 2 0 {self.path}", *(call.line() for call in calls), "exit 0"], CALL_SMALL_WRITER)
         self.assertEqual(self.content(), spell_file(2, 0, []))
+        self.assert_closed(calls)
         awake = [*calls, Call("beat", 1, 500), Call("beat", 0, 1000)]
         run([f"open 2 0 {self.path}", *(call.line() for call in awake), "exit 0"], CALL_SMALL_WRITER)
         self.assertEqual(self.content(), spell_file(2, 0, calls[:500]))
+        self.assert_closed(awake)
 
     def test_put_that_fails(self) -> None:
         whole = len(spell_file(2, 0, BEATS))

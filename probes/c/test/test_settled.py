@@ -10,8 +10,8 @@ import time
 import unittest
 from typing import ClassVar, Iterator, Optional
 
-from calls import (CALL_SMALL_WRITER, CALL_WRITER, CLOSED, LAYOUTS, OK, PROBES, SV48, TAGS, VERSION_2, Call,
-                   answer, calls_of, read, run, spell_file)
+from calls import (CALL_SMALL_WRITER, CALL_WRITER, CLOSED, END_BYTES, LAYOUTS, OK, PROBES, SV48, TAGS,
+                   VERSION_2, Call, answer, calls_of, close, read, run, spell_file)
 # pylint: disable=wrong-import-order
 from probe_generator.campaign import make_pair
 from second_opinion.probe_file import ProbeFile
@@ -162,7 +162,12 @@ class Settled(unittest.TestCase):
         self.assertEqual({answer(line).status for line in answers[:len(calls) + 1]}, {OK})
         kept = settled(pair.harts, calls)
         self.assertEqual(self.content(), spell_file(pair.harts, flags, kept), pair.name)
+        self.assertEqual(self.content(), self.closed(spell_file(pair.harts, flags, calls)), pair.name)
         self.assert_no_new_failure(pair, self.content())
+
+    def closed(self, file: bytes) -> bytes:
+        """What the package's `close` makes of the same records without their End."""
+        return close(file[:-END_BYTES], os.path.join(self.folder.name, "closed"))
 
     def test_settle_and_abort(self) -> None:
         calls = [Call("beat", hart, stamp) for stamp in range(10) for hart in (1, 0)][:-1]
@@ -171,6 +176,7 @@ class Settled(unittest.TestCase):
         answers = [answer(line) for line in ended]
         self.assertEqual(answers[-1].status, CLOSED)
         self.assertEqual(self.content(), spell_file(2, 0, settled(2, calls)))
+        self.assertEqual(self.content(), self.closed(spell_file(2, 0, calls)))
         self.assertEqual(len(settled(2, calls)), 16)
 
     def test_killed(self) -> None:
@@ -183,7 +189,9 @@ class Settled(unittest.TestCase):
             # All that is in the file is settled, and closing it by the rule makes no new failure.
             below = settled(pair.harts, pair.calls[:cut])
             self.assertEqual(found, [call for call in pair.calls[:len(found)] if call in below], pair.name)
-            self.assert_no_new_failure(pair, spell_file(pair.harts, pair.flags, settled(pair.harts, found)))
+            closed = close(content, self.path)
+            self.assertEqual(closed, spell_file(pair.harts, pair.flags, settled(pair.harts, found)), pair.name)
+            self.assert_no_new_failure(pair, closed)
 
     def test_killed_while_writing(self) -> None:
         """Killed at any time, the file has the first records of the run, the last one perhaps cut."""

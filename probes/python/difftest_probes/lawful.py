@@ -8,6 +8,8 @@ from typing import Any, Callable, Dict, List, NamedTuple, Tuple, Type, Union
 from .records import (
     LINE_BYTES,
     MOST_HARTS,
+    RAM_END,
+    RAM_START,
     Atomic,
     Commit,
     Csrs,
@@ -84,7 +86,7 @@ def _atomic_problems(record: Atomic) -> List[Problem]:
 
 
 def _line_problems(line: int) -> List[Problem]:
-    if line % LINE_BYTES == 0 and in_ram(line, LINE_BYTES):
+    if line % LINE_BYTES == 0 and RAM_START <= line < RAM_END:
         return []
     return [Problem("line", line, "a multiple of 64 in RAM (a store to a device has no Drain)")]
 

@@ -1,19 +1,18 @@
 """Reading a probe file as a stream: its records one by one, or where and why it is malformed.
 
-What is kept is one piece of the file, however long it is. The offset of a fault is that which the
-program prints as `MALFORMED offset=N`.
+What is kept is one piece of the file, and of version 2 a bounded number of heads and numbers that came
+before, however long it is. The offset of a fault is that which the program prints as `MALFORMED offset=N`.
 """
 
 from __future__ import annotations
 
 import os
-import re
 from dataclasses import fields
-from functools import lru_cache
 from typing import (
     BinaryIO,
     Callable,
     Dict,
+    Iterable,
     Iterator,
     List,
     NamedTuple,
@@ -26,7 +25,6 @@ from typing import (
 
 from .lawful import BOUND_PROBLEMS, Problem
 from .records import (
-    KIND_OF_TAG,
     KINDS,
     LINE_BYTES,
     MOST_HARTS,
@@ -39,31 +37,46 @@ from .records import (
     Refill,
     Regs,
 )
+from .short_form import (
+    WHOLE_LINE,
+    BadForm,
+    Form,
+    Numbers,
+    form_of,
+    line_at,
+    many_numbers,
+    number_end,
+    refuse_numbers,
+)
 from .spelling import BODIES, END_BYTES, END_TAG, HEADER_BYTES, MAGIC, WIDE_FLAG, Header
 from .writer import ProbeError
 
 PIECE_BYTES = 1 << 16
 # No record is longer: Regs in version 2 with the greatest numbers has 336 bytes.
 MOST_RECORD_BYTES = 512
-MOST_NUMBER_BYTES = 10
-# So many numbers of version 2 are kept with their bytes.
-MOST_KEPT = 1 << 16
+# The tag, the hart, a stamp's difference of one byte, and presence bits of one byte.
+HEAD_BYTES = 4
+# So many heads are kept with what they say.
+MOST_HEADS = 1 << 12
 
 Path = Union[str, "os.PathLike[str]"]
 
+_KINDS = {kind.tag: kind for kind in KINDS}
+# Of each tag the kind, and how version 1 spells its fields.
+_PLAIN_FORMS = {kind.tag: (kind, BODIES[kind.tag]) for kind in KINDS}
 # The names of the fields of each kind in the order of the file.
-_NAMES: Dict[int, Tuple[str, ...]] = {kind.tag: tuple(field.name for field in fields(kind)) for kind in KINDS}
-_LISTED = {Regs.tag, Csrs.tag}
+_NAMES = {kind: tuple(field.name for field in fields(kind)) for kind in KINDS}
+_LISTED = {Regs, Csrs}
+_LINED = {Drain, Refill}
 _WRITING = {Atomic.tag, Drain.tag}
 
 
 def _build(kind: Type[Record], values: Tuple[object, ...]) -> Record:
     """The record with these fields. This is how a frozen class is made where speed counts."""
-    tag = kind.tag
-    if tag in _LISTED:
+    if kind in _LISTED:
         values = (*values[:3], values[3:])
     record = object.__new__(kind)
-    record.__dict__.update(zip(_NAMES[tag], values))
+    record.__dict__.update(zip(_NAMES[kind], values))
     return record
 
 
@@ -99,10 +112,6 @@ class BeyondLimit(ProbeError):
         self.number = most + 1
 
 
-class _Bad(Exception):
-    """Bytes that begin no record, whatever follows."""
-
-
 def _read_header(data: bytes) -> Header:
     """The header of 16 bytes, or as many as there are."""
     version = int.from_bytes(data[8:10], "little")
@@ -122,56 +131,22 @@ def _read_header(data: bytes) -> Header:
     return Header(data[10], version, data[11] == WIDE_FLAG)
 
 
-def _number(spelled: bytes) -> int:
-    number = 0
-    for byte in reversed(spelled):
-        number = number << 7 | byte & 0x7F
-    if number >> 64 or not spelled[-1] and len(spelled) > 1:
-        raise _Bad("a number that is above 8 bytes, or has a byte too many")
-    return number
+class _Head(NamedTuple):
+    """What the first bytes of a record of version 2 say: all before its numbers."""
+
+    kind: Type[Record]
+    hart: int
+    # How far the stamp is from the hart's last.
+    difference: int
+    form: Form
+    # The names of the fields behind hart and stamp.
+    names: Tuple[str, ...]
+    length: int
 
 
-def _number_end(data: bytes, place: int) -> int:
-    """The place behind the number that is spelled at a place; IndexError where the bytes stop."""
-    most = place + MOST_NUMBER_BYTES
-    while data[place] >= 0x80:
-        place += 1
-        if place == most:
-            raise _Bad("a number of more than 10 bytes")
-    return place + 1
-
-
-def _numbers_pattern(count: int) -> re.Pattern[bytes]:
-    """So many spelled numbers, each a group."""
-    return re.compile(rb"([\x80-\xff]{0,%d}[\x00-\x7f])" % (MOST_NUMBER_BYTES - 1) * count)
-
-
-_PATTERNS = tuple(_numbers_pattern(count) for count in range(33))
-
-
-_PRESENCE_BYTES = {kind.tag: (len(kind.numbers) + 7) // 8 for kind in KINDS}
-_Present = Tuple[Tuple[int, int], ...]
-_Match = Callable[[bytes, int], Optional["re.Match[bytes]"]]
-
-
-@lru_cache(maxsize=4096)
-def _form(tag: int, spelled: bytes) -> Tuple[_Match, _Present]:
-    """What the presence bits say: how the numbers are matched, and of each number that is there its place
-    behind hart and stamp, with the bits that it may have."""
-    presence = int.from_bytes(spelled, "little")
-    sizes = KIND_OF_TAG[tag].numbers
-    if presence >> len(sizes):
-        raise _Bad("a presence bit of no field is set")
-    present = tuple((n + 2, 8 * size) for n, (_, size) in enumerate(sizes) if presence >> n & 1)
-    return _PATTERNS[len(present)].match, present
-
-
-@lru_cache(maxsize=4096)
-def _runs(mask: int) -> Tuple[Tuple[int, int], ...]:
-    """The runs of set bits of a mask: where each begins and how long it is."""
-    places = [place for place in range(LINE_BYTES) if mask >> place & 1]
-    starts = [place for place in places if not place or not mask >> (place - 1) & 1]
-    return tuple((at, next(n for n in range(65) if not mask >> (at + n) & 1)) for at in starts)
+# By HEAD_BYTES bytes, the heads with which these begin; no more than MOST_HEADS of them.
+_HEADS: Dict[bytes, _Head] = {}
+_value_of = Numbers().__getitem__
 
 
 class Checkpoint(NamedTuple):
@@ -208,8 +183,6 @@ class Reader:
         self._place = HEADER_BYTES
         # Of each hart the stamp of its last record; 0 where it has none yet.
         self.last_stamps: List[int] = [0] * self.header.harts
-        # The values of the numbers that were spelled last, by their bytes.
-        self._kept: Dict[bytes, int] = {}
 
     @property
     def offset(self) -> int:
@@ -257,7 +230,7 @@ class Reader:
                 return
             try:
                 record, end = decode()
-            except _Bad as bad:
+            except BadForm as bad:
                 raise Malformed(self.offset, self.count, str(bad)) from None
             except IndexError:
                 raise Malformed.cut(self.offset, self.count, "the record is cut short") from None
@@ -267,88 +240,60 @@ class Reader:
 
     def _decode_plain(self) -> Tuple[Record, int]:
         """The record of version 1 at the place, and the place behind it."""
-        tag = self._buffer[self._place]
-        kind = KIND_OF_TAG.get(tag)
-        if kind is None:
-            raise _Bad(f"the tag {tag} is of no kind")
-        body = BODIES[tag]
-        end = self._place + body.size
-        if end > len(self._buffer):
+        data, place = self._buffer, self._place
+        found = _PLAIN_FORMS.get(data[place])
+        if found is None:
+            raise BadForm(f"the tag {data[place]} is of no kind")
+        kind, body = found
+        end = place + body.size
+        if end > len(data):
             raise IndexError
-        return _build(kind, body.unpack_from(self._buffer, self._place)), end
+        return _build(kind, body.unpack_from(data, place)), end
 
     def _decode_short(self) -> Tuple[Record, int]:
         """The record of version 2 at the place, and the place behind it."""
         data, place = self._buffer, self._place
-        kind = KIND_OF_TAG.get(data[place])
-        if kind is None:
-            raise _Bad(f"the tag {data[place]} is of no kind")
-        hart = data[place + 1]
-        stamp, end = data[place + 2], place + 3
-        if stamp >= 0x80:
-            end = _number_end(data, place + 2)
-            stamp = self._number(data[place + 2 : end])
+        head = _HEADS.get(data[place : place + HEAD_BYTES]) or self._read_head()
+        kind, hart, stamp, form, names, length = head
+        found = form.match(data, place + length)
+        if found is None:
+            refuse_numbers(form, data, place + length)
         if hart < self.header.harts:
             stamp += self.last_stamps[hart]
-        values: List[object] = [hart, stamp, *(0,) * len(kind.numbers)]
-        place = self._read_numbers(kind, end, values)
+        numbers: Iterable[object] = map(_value_of, found.groups())
+        if kind in _LISTED:
+            first, *others = many_numbers(form, found.group(), _value_of)
+            numbers = (first, tuple(others))
+        record, end = object.__new__(kind), found.end()
+        held = record.__dict__
+        held["hart"] = hart
+        held["stamp"] = stamp
+        held.update(zip(names, numbers))
         if stamp >> 64:
-            raise _Bad("the stamp is above 8 bytes")
-        if kind is Drain or kind is Refill:
-            mask = values[3] if kind is Drain else (1 << LINE_BYTES) - 1
-            assert isinstance(mask, int)
-            content, place = self._read_content(place, mask)
-            values.append(content)
-        return _build(kind, tuple(values)), place
+            raise BadForm("the stamp is above 8 bytes")
+        if kind in _LINED:
+            held["content"], end = line_at(data, end, held["mask"] if kind is Drain else WHOLE_LINE)
+        return record, end
 
-    def _read_numbers(self, kind: Type[Record], place: int, values: List[object]) -> int:
-        """Puts the numbers of a record behind the first two values; gives the place behind them."""
-        size = _PRESENCE_BYTES[kind.tag]
-        spelled = self._buffer[place : place + size]
-        if len(spelled) < size:
+    def _read_head(self) -> _Head:
+        """The head at the place."""
+        data, place = self._buffer, self._place
+        kind = _KINDS.get(data[place])
+        if kind is None:
+            raise BadForm(f"the tag {data[place]} is of no kind")
+        hart, start = data[place + 1], place + 2
+        end = number_end(data, start)
+        difference = _value_of(data[start:end])
+        length = end - place + (len(kind.numbers) + 7) // 8
+        presence = data[end : place + length]
+        if place + length > len(data):
             raise IndexError
-        match, present = _form(kind.tag, spelled)
-        found = match(self._buffer, place + size)
-        if found is None:
-            return self._refuse_numbers(present, place + size)
-        kept = self._kept
-        for (field, bits), group in zip(present, found.groups()):
-            value = kept.get(group)
-            if value is None:
-                value = self._number(group)
-            if not value or value >> bits:
-                raise _Bad(f"{kind.numbers[field - 2][0]} is spelled as {value:#x}")
-            values[field] = value
-        return found.end()
-
-    def _number(self, spelled: bytes) -> int:
-        """The number that these bytes spell."""
-        found = self._kept.get(spelled)
-        if found is None:
-            if len(self._kept) >= MOST_KEPT:
-                self._kept.clear()
-            found = self._kept[spelled] = _number(spelled)
-        return found
-
-    def _refuse_numbers(self, present: _Present, place: int) -> NoReturn:
-        """Raises what is wrong with the numbers at a place: one is bad, or they are cut."""
-        for _, bits in present:
-            end = _number_end(self._buffer, place)
-            value = self._number(self._buffer[place:end])
-            if not value or value >> bits:
-                raise _Bad(f"a number is spelled as {value:#x}")
-            place = end
-        raise AssertionError("the numbers are whole")
-
-    def _read_content(self, place: int, mask: int) -> Tuple[bytes, int]:
-        """The bytes of a line whose mask bits are set, and the place behind them."""
-        content = bytearray(LINE_BYTES)
-        for start, length in _runs(mask):
-            content[start : start + length] = self._buffer[place : place + length]
-            place += length
-        if place > len(self._buffer):
-            raise IndexError
-        return bytes(content), place
+        head = _Head(kind, hart, difference, form_of(kind.tag, presence), _NAMES[kind][2:], length)
+        if length <= HEAD_BYTES:
+            if len(_HEADS) >= MOST_HEADS:
+                _HEADS.clear()
+            _HEADS[data[place : place + HEAD_BYTES]] = head
+        return head
 
     def _accept(self, record: Record) -> None:
         """Counts a record, or raises what is wrong with it here."""

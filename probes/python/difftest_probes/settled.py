@@ -9,13 +9,13 @@ another hart's drain that is not in it.
 
 from __future__ import annotations
 
-from typing import Callable, Iterator, NamedTuple, Optional
+from typing import BinaryIO, Callable, NamedTuple, Optional
 
 from .outputs import replacing
 from .reader import BeyondLimit, Malformed, Path, Reader
-from .records import Record
-from .spelling import Header
-from .writer import Writer
+from .records import MOST_RECORDS, MOST_WRITES, Record
+from .spelling import Header, spell_end
+from .writer import LimitReached
 
 
 class Front(NamedTuple):
@@ -50,24 +50,58 @@ def front_of(path: Path, limited: bool = True) -> Front:
         return Front(reader.header, reader.count, least, reader.ended, beyond, cut)
 
 
-def first_records(path: Path, count: int) -> Iterator[Record]:
-    """So many records of a file from its beginning."""
-    with open(path, "rb") as stream:
-        reader = Reader(stream, limited=False)
-        if count:
-            for record in reader:
-                yield record
-                if reader.count == count:
-                    return
+def copy_kept(
+    reader: Reader, source: BinaryIO, until: int, is_kept: Callable[[Record], bool], sink: BinaryIO
+) -> int:
+    """Copies those records that are kept, up to so many of the file, and gives their number.
+
+    The reader and the source stand at the same place. Of each hart the first ones have to be kept, so that
+    their bytes are the same in the copy.
+    """
+    kept, place = 0, reader.offset
+    if reader.count >= until:
+        return kept
+    for record in reader:
+        spelled = source.read(reader.offset - place)
+        place = reader.offset
+        if is_kept(record):
+            sink.write(spelled)
+            kept += 1
+        if reader.count == until:
+            break
+    return kept
+
+
+def _within_limits(is_kept: Callable[[Record], bool]) -> Callable[[Record], bool]:
+    """The same choice; it raises LimitReached where more is kept than a file may have."""
+    records = writes = 0
+
+    def is_kept_and_fits(record: Record) -> bool:
+        nonlocal records, writes
+        if not is_kept(record):
+            return False
+        records += 1
+        writes += record.writes_memory
+        if records > MOST_RECORDS:
+            raise LimitReached("records", MOST_RECORDS)
+        if writes > MOST_WRITES:
+            raise LimitReached("writes", MOST_WRITES)
+        return True
+
+    return is_kept_and_fits
 
 
 def write_kept(path: Path, front: Front, out: Path, is_kept: Callable[[Record], bool]) -> int:
-    """Writes those of a front's records that are kept, with an End; gives their number."""
-    with replacing(out) as stream, Writer(stream, *front.header) as writer:
-        for record in first_records(path, front.records):
-            if is_kept(record):
-                writer.write(record)
-    return writer.count
+    """Writes those of a front's records that are kept, with an End; gives their number.
+
+    Of each hart the first ones have to be kept.
+    """
+    with open(path, "rb") as read, open(path, "rb") as source, replacing(out) as sink:
+        reader = Reader(read, limited=False)
+        sink.write(source.read(reader.offset))
+        kept = copy_kept(reader, source, front.records, _within_limits(is_kept), sink)
+        sink.write(spell_end(kept))
+    return kept
 
 
 def write_settled(path: Path, front: Front, out: Path) -> int:

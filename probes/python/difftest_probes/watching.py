@@ -1,24 +1,28 @@
 """Judging a run while it goes on.
 
 The front of the file that a run has written so far is judged at its settled end: a FAIL there is one of
-the whole run. How far the run has come since the last judged front decides when the next is due, and when
-the run has to wait, so that a settled failure is named before the run has twice as many records as it had
-when the failure settled. A run is looked at now and then, and not at each record: one that writes more
-between two looks than all before can be ahead of that.
+the whole run. The run writes into a pipe, from which no more is taken than may come before the next
+judgement, so that the run waits in its own writing, however fast it is. So a settled failure is named
+before the run has handed over twice as many records as when the failure settled, or before it has handed
+over AHEAD_BYTES more, where these are more.
 """
 
 from __future__ import annotations
 
+import contextlib
+import mmap
 import os
+import select
 import subprocess
+import sys
 import tempfile
 from typing import BinaryIO, List, NamedTuple, Optional, Tuple
 
 from .program import find_program
 from .reader import BeyondLimit, Checkpoint, Malformed, Path, Reader
 from .report import NotAReport, Report, parse_report
-from .settled import Front
-from .spelling import spell, spell_end, spell_short
+from .settled import Front, copy_kept
+from .spelling import spell_end
 from .writer import ProbeError
 
 # A front is judged once it has half as many records again as the one before, so that all judgements together
@@ -27,10 +31,74 @@ GROWTH_NUMERATOR, GROWTH_DENOMINATOR = 3, 2
 # So many records apart it is noted how far a file has settled.
 CHECKPOINT_RECORDS = 4096
 COPY_BYTES = 1 << 20
-# How many times what came between two looks may come before the run stops.
-BURSTS = 2
 # At the beginning a front is judged as soon as it has so many records.
 FIRST_RECORDS = 64
+# The pipe holds so many bytes, and so many are taken out of it at once: a page, the least that Linux gives.
+PIPE_BYTES = mmap.PAGESIZE
+# What a run can hand over beyond what was asked for: a piece that is taken, and a pipe that is full again.
+AHEAD_BYTES = 2 * PIPE_BYTES
+# The smallest record has 3 bytes, and one more may have come in part.
+MOST_AHEAD_RECORDS = AHEAD_BYTES // 3 + 2
+# How a pipe is made smaller; Python has a name for it since 3.10.
+SET_PIPE_SIZE = 1031
+
+
+class Pipe:
+    """The pipe at the path of a probe file, and the file that its bytes go into.
+
+    At the end the file takes the pipe's place.
+    """
+
+    def __init__(self, path: str) -> None:
+        if sys.platform != "linux":
+            raise ProbeError("watch needs Linux, or --no-pause")
+        import fcntl
+
+        self._path = path
+        self.copy_path = f"{path}.{os.getpid()}.part"
+        os.mkfifo(path)
+        # Opened to write as well, so that it is not at its end where the run closes it.
+        self._pipe = os.open(path, os.O_RDWR | os.O_NONBLOCK)
+        fcntl.fcntl(self._pipe, SET_PIPE_SIZE, PIPE_BYTES)
+        self._copy = open(self.copy_path, "wb")
+        # How many bytes were taken.
+        self.taken = 0
+
+    def take(self, most: int = PIPE_BYTES) -> bool:
+        """Moves at most so many bytes into the file; says whether there were some."""
+        try:
+            piece = os.read(self._pipe, most)
+        except BlockingIOError:
+            return False
+        self._copy.write(piece)
+        self._copy.flush()
+        self.taken += len(piece)
+        return True
+
+    def wait(self, seconds: float) -> None:
+        """Waits so long, or until there are bytes."""
+        select.select([self._pipe], [], [], seconds)
+
+    @property
+    def is_in_place(self) -> bool:
+        """Whether the path still names the pipe, and not a file that the run has put there."""
+        try:
+            return os.path.samestat(os.stat(self._path), os.fstat(self._pipe))
+        except FileNotFoundError:
+            return False
+
+    def close(self) -> None:
+        """Takes what is left, and puts the file in the place of the pipe, if that is still there."""
+        if self._copy.closed:
+            return
+        while self.take():
+            pass
+        self._copy.close()
+        if self.is_in_place:
+            os.replace(self.copy_path, self._path)
+        else:
+            os.remove(self.copy_path)
+        os.close(self._pipe)
 
 
 class Follower:
@@ -49,6 +117,11 @@ class Follower:
     def count(self) -> int:
         """How many records have come."""
         return self._reader.count if self._reader else 0
+
+    @property
+    def offset(self) -> int:
+        """Where the last whole record ends."""
+        return self._reader.offset if self._reader else 0
 
     @property
     def ended(self) -> bool:
@@ -94,14 +167,15 @@ class Follower:
         """
         front = self.front
         assert front is not None
-        settled = [point for greatest, point in self._points if greatest < front.least]
-        with open(self.path, "rb") as source, open(out, "wb") as sink:
-            reader = Reader(source, limited=False)
-            start = settled[-1] if settled else reader.checkpoint()
-            source.seek(0)
-            _copy(source, sink, start.offset)
-            reader.go_on_from(start)
-            kept = start.records + _copy_settled(reader, front, sink, start)
+        least = front.least
+        settled = [point for greatest, point in self._points if greatest < least]
+        with open(self.path, "rb") as read, open(self.path, "rb") as source, open(out, "wb") as sink:
+            reader = Reader(read, limited=False)
+            if settled:
+                reader.go_on_from(settled[-1])
+            kept = reader.count
+            _copy(source, sink, reader.offset)
+            kept += copy_kept(reader, source, front.records, lambda record: record.stamp < least, sink)
             sink.write(spell_end(kept))
         return kept
 
@@ -136,24 +210,6 @@ def _copy(source: BinaryIO, sink: BinaryIO, length: int) -> None:
         length -= len(piece)
 
 
-def _copy_settled(reader: Reader, front: Front, sink: BinaryIO, start: Checkpoint) -> int:
-    """Writes the settled ones of the records from the start up to the front's end; gives their number."""
-    kept, last = 0, list(start.last_stamps)
-    if reader.count == front.records:
-        return kept
-    for record in reader:
-        if record.stamp < front.least:
-            if front.header.version == 1:
-                sink.write(spell(record))
-            else:
-                sink.write(spell_short(record, last[record.hart]))
-            last[record.hart] = record.stamp
-            kept += 1
-        if reader.count == front.records:
-            break
-    return kept
-
-
 class Verdict(NamedTuple):
     """What the program answered over a front of so many records."""
 
@@ -167,7 +223,7 @@ class Judging:
     """One run of the program over a settled front, in a process of its own."""
 
     def __init__(self, image: Path, follower: Follower, program: Optional[Path]) -> None:
-        self.records = follower.count
+        self.records, self.bytes = follower.count, follower.offset
         self._folder = tempfile.TemporaryDirectory(prefix="difftest-watch-")
         prefix = os.path.join(self._folder.name, "settled.probes")
         self.settled = follower.write_settled(prefix)
@@ -179,6 +235,11 @@ class Judging:
     def is_over(self) -> bool:
         """Whether the program has answered."""
         return self._process.poll() is not None
+
+    def wait(self, seconds: float) -> None:
+        """Waits so long, or until the program has answered."""
+        with contextlib.suppress(subprocess.TimeoutExpired):
+            self._process.wait(seconds)
 
     def verdict(self) -> Verdict:
         """The answer, waiting for it."""
@@ -201,28 +262,25 @@ class Judging:
 
 
 class Pace:
-    """When a front is judged and when the run has to wait, by how the run grows."""
+    """When a front is judged, and how much a run may hand over until then."""
 
     def __init__(self) -> None:
+        # Of the last front that was judged, how many records and bytes it had.
         self.judged = 0
-        self._count = 0
-        self._burst = 0
+        self.judged_bytes = 0
 
-    def look(self, count: int) -> None:
-        """Takes how many records have come. What came since the last look may come again before the next."""
-        self._burst = max(count - self._count, self._burst // 2)
-        self._count = count
+    def room(self, count: int, taken: int) -> int:
+        """How many bytes may be taken, where so many records and bytes have come.
 
-    @property
-    def has_to_wait(self) -> bool:
-        """Whether the run could double what is judged before it is looked at again."""
-        if self._count <= self.judged:
-            return False
-        return self._count + BURSTS * self._burst >= max(2 * self.judged, 2 * FIRST_RECORDS)
+        With what the pipe may hold then, the run has handed over less than twice what is judged, or no more
+        than AHEAD_BYTES beyond it.
+        """
+        if count + MOST_AHEAD_RECORDS <= 2 * self.judged:
+            return PIPE_BYTES
+        return max(0, self.judged_bytes + PIPE_BYTES - taken)
 
-    @property
-    def is_due(self) -> bool:
+    def is_due(self, count: int, may_go_on: bool) -> bool:
         """Whether the front is to be judged, where nothing is judged just now."""
-        if self._count < FIRST_RECORDS:
+        if count <= self.judged or may_go_on and count < FIRST_RECORDS:
             return False
-        return self.has_to_wait or GROWTH_DENOMINATOR * self._count >= GROWTH_NUMERATOR * self.judged
+        return not may_go_on or GROWTH_DENOMINATOR * count >= GROWTH_NUMERATOR * self.judged

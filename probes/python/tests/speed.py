@@ -1,7 +1,8 @@
-"""How fast files are read and written: `python3 -m tests.speed`, on a machine that does nothing else.
+"""How fast files are read and written: `checks/probe-package --speed`, on a machine that does nothing else.
 
-The records are a loop of commits, loads, stores and drains. Status: 1 where version 1 is read at less
-than 200,000 records a second of processor time.
+The records are a loop of two harts: commits, loads, stores and drains, a beat or the registers now and then,
+and values of all lengths. The best of some runs counts, by processor time, since other work on the machine only slows. Status: 1
+where a version is read at less than 200,000 records a second.
 """
 
 from __future__ import annotations
@@ -11,23 +12,38 @@ import sys
 import time
 from typing import List
 
-from difftest_probes import Commit, Drain, Header, Load, Reader, Record, Store, write_file
+from difftest_probes import Beat, Commit, Drain, Header, Load, Reader, Record, Regs, Store, write_file
 
 RAM, DATA = 0x80000000, 0x80001000
-LOOPS = 50_000
+LOOPS, RUNS = 25_000, 5
 LEAST_RATE = 200_000
 
 
 def loop_records() -> List[Record]:
-    """A loop that counts in memory."""
+    """Two harts that count in memory, each in lines of its own."""
     rows: List[Record] = []
     for n in range(LOOPS):
-        content = n.to_bytes(8, "little") + bytes(56)
-        rows.append(Commit(0, n, RAM + 4 * (n % 100), 0x00138393, n * 0x9E3779B97F4A7C15 % (1 << 64)))
-        rows.append(Load(0, n, RAM + 4, 0x0002B403, n, n, DATA))
-        rows.append(Store(0, n, RAM + 8, 0x0072B023, DATA, n))
-        rows.append(Drain(0, n, DATA, 0xFF, 1, content))
+        value = n * 0x9E3779B97F4A7C15 % (1 << 64) >> n % 64
+        for hart in (0, 1):
+            line, pc = DATA + 64 * (2 * (n % 32) + hart), RAM + 16 * (n % 100)
+            content = value.to_bytes(8, "little") + bytes(56)
+            rows.append(Load(hart, 5 * n + 1, pc, 0x0002B403, value, 5 * n, line))
+            rows.append(Commit(hart, 5 * n + 2, pc + 4, 0x00140413, value))
+            rows.append(Store(hart, 5 * n + 3, pc + 8, 0x0082B023, line, value))
+            rows.append(Drain(hart, 5 * n + 5, line, 0xFF, 1, content))
+            if n % 16 == 0:
+                rows.append(Beat(hart, 5 * n + 5))
+            if n % 64 == 0:
+                x = tuple(value if value >> place & 1 else 0 for place in range(31))
+                rows.append(Regs(hart, 5 * n + 5, pc + 12, x))
     return rows
+
+
+def rate_of_reading(data: bytes) -> float:
+    """How many records of a file are read in a second."""
+    start = time.process_time()
+    count = sum(1 for _ in Reader(io.BytesIO(data)))
+    return count / (time.process_time() - start)
 
 
 def main() -> int:
@@ -36,14 +52,11 @@ def main() -> int:
     for version in (1, 2):
         stream = io.BytesIO()
         start = time.process_time()
-        write_file(stream, Header(1, version), rows)
+        write_file(stream, Header(2, version), rows)
         written = len(rows) / (time.process_time() - start)
-        stream.seek(0)
-        start = time.process_time()
-        count = sum(1 for _ in Reader(stream))
-        rate = count / (time.process_time() - start)
+        rate = max(rate_of_reading(stream.getvalue()) for _ in range(RUNS))
         print(f"version {version}: {rate:,.0f} records a second read, {written:,.0f} written")
-        slow = slow or version == 1 and rate < LEAST_RATE
+        slow = slow or rate < LEAST_RATE
     return 1 if slow else 0
 
 

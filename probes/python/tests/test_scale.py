@@ -6,10 +6,12 @@ import os
 import subprocess
 import sys
 import unittest
+from typing import Callable
 
-from difftest_probes import Beat, Header
+from difftest_probes import Beat, Commit, Header
 from difftest_probes.records import MOST_RECORDS
-from difftest_probes.spelling import spell, spell_end
+from difftest_probes.short_form import MOST_KEPT
+from difftest_probes.spelling import spell, spell_end, spell_short
 
 from .support import IS_WHOLE, FolderCase
 
@@ -25,17 +27,28 @@ RECORDS = MOST_RECORDS if IS_WHOLE else 150_000
 MOST_KIBIBYTES_MORE = 4096
 
 
+def thousand_beats(_first: int) -> bytes:
+    """A thousand records of version 1."""
+    return spell(Beat(0, 0)) * 1000
+
+
+def thousand_commits(first: int) -> bytes:
+    """A thousand records of version 2, with values that no other record has."""
+    return b"".join(
+        spell_short(Commit(0, 0, 0x80000000, 0x13, (first + n) << 40 | 1), 0) for n in range(1000)
+    )
+
+
 class Memory(FolderCase):
     """What a command takes at most."""
 
-    def memory_of_info(self, records: int) -> int:
-        """The memory of `info` over a file of so many records."""
+    def memory_of_info(self, version: int, records: int, thousand: Callable[[int], bytes]) -> int:
+        """The memory of `info` over a file of so many records, written by the thousand."""
         with open(self.path("run"), "wb") as out:
-            out.write(Header(1).spell())
-            piece = spell(Beat(0, 0))
-            for _ in range(records // 1000):
-                out.write(piece * 1000)
-            out.write(piece * (records % 1000) + spell_end(records))
+            out.write(Header(1, version).spell())
+            for first in range(0, records, 1000):
+                out.write(thousand(first))
+            out.write(spell_end(records))
         words = [sys.executable, "-c", MEASURED, "info", self.path("run")]
         folder = os.path.dirname(os.path.dirname(os.path.abspath(__file__)))
         done = subprocess.run(words, stdout=subprocess.PIPE, cwd=folder, check=True)
@@ -44,7 +57,11 @@ class Memory(FolderCase):
         return int(lines[-1].split()[1])
 
     def test_constant(self) -> None:
-        self.assertLess(self.memory_of_info(RECORDS), self.memory_of_info(2000) + MOST_KIBIBYTES_MORE)
+        records = RECORDS // 1000 * 1000
+        for version, least, thousand in ((1, 2000, thousand_beats), (2, MOST_KEPT, thousand_commits)):
+            least = least // 1000 * 1000 + 1000
+            more = self.memory_of_info(version, records, thousand)
+            self.assertLess(more, self.memory_of_info(version, least, thousand) + MOST_KIBIBYTES_MORE)
 
 
 if __name__ == "__main__":

@@ -8,13 +8,15 @@ import subprocess
 import sys
 import time
 import unittest
-from typing import List, Tuple
+from bisect import bisect_right
+from random import Random
+from typing import Iterator, List, Tuple
 from unittest.mock import patch
 
 from difftest_probes import Beat, Commit, Record, parse_report, read
 from difftest_probes import reader as reader_module
 from difftest_probes.isa import assembler as asm
-from difftest_probes.watching import Follower, Pace
+from difftest_probes.watching import AHEAD_BYTES, PIPE_BYTES, Follower, Pace
 
 from .support import CommandCase, bytes_of, made_pair, second_answer, second_reading
 from .test_commands import words_of
@@ -70,6 +72,10 @@ class Watch(CommandCase):
             "watch", *more, image or self.image, self.out, "--", *self.words(run, size, pause)
         )
 
+    def folder(self) -> str:
+        """The folder of the test's files."""
+        return os.path.dirname(self.out)
+
     def written(self) -> int:
         """How many bytes the simulation wrote."""
         return os.path.getsize(self.out)
@@ -85,16 +91,69 @@ class Watch(CommandCase):
             self.assertEqual(self.said, "")
 
     def test_failure_is_named_before_the_run_has_doubled(self) -> None:
-        """Whatever the length: the run is ended before it has twice the records of when the failure settled."""
-        for version, failing, size, pause in ((1, 300, 300, 0.01), (2, 2500, 600, 0.01)):
-            rows = long_run(failing, 40 * failing)
+        """Whatever its length and speed: each of these runs is handed over in one write, as fast as can be."""
+        for version, failing in ((1, 40), (2, 300), (1, 1000), (2, 2500), (1, 9000), (2, 30_000)):
+            rows = long_run(failing, 3 * failing + 4000)
             run = bytes_of(rows, 2, version)
-            # The failure settles with the second hart's first record of the next cycle.
-            settled = len(bytes_of(rows[: 2 * failing + 4], 2, version))
-            status, text = self.watch(run, size, pause)
+            status, text = self.watch(run, len(run), 0)
             self.assertEqual(status, 1)
             self.assertTrue(text.startswith(f"FAIL stamp={failing} hart=1 seq={failing} reason=1 Pc "), text)
-            self.assertLess(self.written(), 2 * settled)
+            # The failure settles with the second hart's first record of the next cycle.
+            settled = 2 * failing + 4
+            doubled = len(bytes_of(rows[: 2 * settled], 2, version))
+            more = len(bytes_of(rows[:settled], 2, version)) + AHEAD_BYTES
+            # While it is being ended the run may write a little more.
+            self.assertLess(self.written(), max(doubled, more) + AHEAD_BYTES)
+            self.assertLess(self.written(), len(run))
+
+    def test_slow_run_is_ended_as_soon(self) -> None:
+        for version, failing, size, pause in ((1, 300, 300, 0.01), (2, 2500, 600, 0.01)):
+            rows = long_run(failing, 40 * failing)
+            settled = len(bytes_of(rows[: 2 * failing + 4], 2, version))
+            self.assertEqual(self.watch(bytes_of(rows, 2, version), size, pause)[0], 1)
+            self.assertLess(self.written(), 2 * settled + AHEAD_BYTES)
+
+    def test_run_that_never_waits(self) -> None:
+        run = bytes_of(long_run(300, 40_000), 2)
+        status, text = self.watch(run, len(run), 0, more=("--no-pause",))
+        self.assertEqual((status, text.split(" reason")[0]), (1, "FAIL stamp=300 hart=1 seq=300"))
+        self.assertEqual(self.written(), len(run))
+        with open(PASSING, "rb") as source:
+            run = source.read()
+        self.assertEqual(self.watch(run, 50, 0.01, image=IMAGE, more=("--no-pause",))[0], 0)
+        self.assertEqual(self.get("out.probes"), run)
+
+    def test_run_that_puts_a_file_there(self) -> None:
+        """The file of a run that does not write into what is there is judged at its end."""
+        for probes, status in ((PASSING, 0), (FAILING, 1)):
+            with open(probes, "rb") as source:
+                run = self.put("made", source.read())
+            words = ("watch", IMAGE, self.out, "--", "mv", run, self.out)
+            self.assertEqual(self.run_command(*words)[0], status)
+            self.assertEqual(os.listdir(self.folder()).count("out.probes"), 1)
+        self.assertEqual([name for name in os.listdir(self.folder()) if name.endswith(".part")], [])
+
+    def test_what_a_run_writes_when_it_is_ended_is_in_the_file(self) -> None:
+        """More than a pipe holds."""
+        script = "import signal\n\ndef last(*_):\n    out.write(bytes(100_000))\n    sys.exit(0)\n"
+        words = list(self.words(bytes_of(long_run(100, 20_000), 2), 300, 0.01))
+        words[1] = self.put("last.py", (script + "signal.signal(15, last)" + SIMULATION).encode())
+        self.assertEqual(self.run_command("watch", self.image, self.out, "--", *words)[0], 1)
+        self.assertTrue(self.get("out.probes").endswith(bytes(100_000)))
+
+    def test_made_pairs(self) -> None:
+        """Whenever a failure is found, the FAIL line is that of the whole."""
+        early = 0
+        for number in range(1, 31):
+            image, probes = made_pair(number)
+            self.put("made.image", image)
+            status, whole = second_answer(self.path("made.image"), self.put("made", probes))
+            if status != 1 or len(probes) > 6000:
+                continue
+            answer = self.watch(probes, 300, 0.002, image=self.path("made.image"))
+            self.assertEqual((answer[0], answer[1].split("\n")[0]), (1, whole.split("\n")[0]), number)
+            early += "settled of" in self.said
+        self.assertGreater(early, 2)
 
     def test_run_without_an_end(self) -> None:
         rows: List[Record] = [Commit(0, 1, RAM, LOOP, 0), Beat(1, 1), Commit(0, 2, RAM, LOOP, 0), Beat(1, 3)]
@@ -197,21 +256,38 @@ class Following(CommandCase):
             self.assertEqual((kept, self.records_of("settled")), (len(closed), closed))
         follower.close()
 
-    def test_pace(self) -> None:
-        pace = Pace()
-        for count, judged, due, waits in (
-            (40, 0, False, False),
-            (64, 0, True, False),
-            (70, 64, False, False),
-            (96, 64, True, True),
-            (110, 64, True, True),
-            (110, 110, False, False),
-            (120, 110, False, False),
-            (165, 110, True, True),
-        ):
-            pace.judged = judged
-            pace.look(count)
-            self.assertEqual((pace.is_due, pace.has_to_wait), (due, waits), (count, judged))
+class Pacing(unittest.TestCase):
+    """How far a run can be ahead of what is judged, if it fills the pipe whenever there is room."""
+
+    def test_bound(self) -> None:
+        """The first failure that is not judged settles with the next record, or later: then it is ahead less."""
+        doubled = steps = 0
+        for seed in range(90):
+            random = Random(seed)
+            sizes = ((3,), (3, 10), (30, 46, 92), (266, 344))[seed % 4]
+            ends = [16]
+            while len(ends) < 20_000:
+                ends.append(ends[-1] + random.choice(sizes))
+            for judged, handed_over in self.steps(ends, random):
+                steps += 1
+                if bisect_right(ends, handed_over) - 1 >= 2 * (judged + 1):
+                    doubled += 1
+                    self.assertLessEqual(handed_over - ends[judged + 1], AHEAD_BYTES, seed)
+        # Both happen: short runs are more than doubled, longer ones are not.
+        self.assertTrue(0 < doubled < steps / 2, (doubled, steps))
+
+    def steps(self, ends: List[int], random: Random) -> Iterator[Tuple[int, int]]:
+        """How many records are judged, and how many bytes handed over; `ends` is where each record ends."""
+        pace, taken, judging = Pace(), 16, 0
+        while pace.judged < 6000:
+            room = pace.room(bisect_right(ends, taken) - 1, taken)
+            taken += random.choice((room, random.randint(0, room)))
+            count = bisect_right(ends, taken) - 1
+            yield pace.judged, taken + PIPE_BYTES
+            if judging and random.random() < 0.3:
+                pace.judged, pace.judged_bytes, judging = judging, ends[judging], 0
+            elif not judging and pace.is_due(count, pace.room(count, taken) > 0):
+                judging = count
 
 
 if __name__ == "__main__":
