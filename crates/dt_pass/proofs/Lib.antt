@@ -1,3 +1,4 @@
+mod ACheck
 mod AllHarts
 mod Failing
 mod HartRuns

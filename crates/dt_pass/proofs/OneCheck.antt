@@ -21,7 +21,7 @@ use Rattle.dt_verdict.specs.Verdict.{verdict_of}
 use Rattle.dt_pass.specs.Checked.{HartRun, IsRun, limit_of, notes_of, outcome_of}
 use Rattle.dt_pass.specs.Laws.{AFileHasOneCheck}
 
-abbrev run_made : ℕ → List Passed → Option Misfit → HartRun
+abbrev pub run_made : ℕ → List Passed → Option Misfit → HartRun
 run_made hart allowed refused = record { hart = hart; allowed = allowed; refused = refused }
 
 -- a hart has one run
@@ -49,7 +49,7 @@ same_runs law ordered image wide records (run ∷ runs) (other ∷ others) numbe
     let rest : runs ≡ others = same_runs law ordered image wide records runs others (cc) (All-tail (IsRun image wide records) run runs are) (All-tail (IsRun image wide records) other others also) in
     ap (λ r. r ∷ runs) first ∙ ap (λ rs. other ∷ rs) rest
 
-abbrev checked_made : Verdict → ℕ → List Counts → List Noted → Checked
+abbrev pub checked_made : Verdict → ℕ → List Counts → List Noted → Checked
 checked_made verdict harts counts notes = record { verdict = verdict; harts = harts; tallies = record { harts = counts; notes = notes } }
 
 same_checked : (one other : Checked) → one.verdict ≡ other.verdict → one.harts ≡ other.harts → one.tallies.harts ≡ other.tallies.harts → one.tallies.notes ≡ other.tallies.notes

@@ -53,3 +53,8 @@ FailIsFirst = (image : List ℕ) (wide : Bool) (harts : ℕ) (records : List Rec
 abbrev pub AFileHasOneCheck : Type 0
 AFileHasOneCheck = (image : List ℕ) (wide : Bool) (harts : ℕ) (records : List Record) (one other : Checked)
     → IsChecked image wide harts records one → IsChecked image wide harts records other → one ≡ other
+
+-- whatever the image and the records are, the records have a check over the image
+abbrev pub AFileHasACheck : Type 0
+AFileHasACheck = (image : List ℕ) (wide : Bool) (harts : ℕ) (records : List Record)
+    → (checked : Checked) × IsChecked image wide harts records checked

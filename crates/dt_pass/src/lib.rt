@@ -10,4 +10,4 @@ mod running;
 mod tests;
 
 pub use checking::{checked, pass};
-pub use laws::{a_file_has_one_check, fail_is_first, pass_is_all_allowed};
+pub use laws::{a_file_has_a_check, a_file_has_one_check, fail_is_first, pass_is_all_allowed};

@@ -14,6 +14,7 @@ use Rattle.dt_verdict.specs.declared.verdicts.Outcome.{Outcome}
 use Rattle.dt_verdict.specs.declared.verdicts.Verdict.{Verdict}
 use Rattle.dt_verdict.specs.declared.verdicts.Verdict.TheVariants.{Pass, Fail}
 use Rattle.dt_verdict.specs.Verdict.{failures_of, has_least_key, verdict_of, IsVerdict, is_sooner, joined_verdict}
+use Rattle.dt_verdict.specs.Laws.{VerdictsAreLeast}
 
 -- a failure, with greater keys before it and no lower ones behind it
 pub record IsFirstLeast (fs : List Failure) (f : Failure) : Type 0 where
@@ -135,3 +136,26 @@ Stands-more xs i d v within is =
 -- when all harts are joined
 pub Stands-all : (xs : List Outcome) (i : ℕ) (v : Verdict) → length xs ≤ i → Stands (failures_of (take i xs)) v → Stands (failures_of xs) v
 Stands-all xs i v all is = subst (λ (t : List Outcome). Stands (failures_of t) v) (take_all i xs all) is
+
+-- ---- the verdict of any outcomes
+
+-- a verdict that stands
+record Standing (fs : List Failure) : Type 0 where
+  pub verdict : Verdict
+  pub stands : Stands fs verdict
+
+failures_joined : (fs : List Failure) (o : Option Failure) (rest : List Failure) → (fs ++ cons_option o []) ++ rest ≡ fs ++ cons_option o rest
+failures_joined fs None rest = ap (λ (t : List Failure). t ++ rest) (append-nil fs)
+failures_joined fs (Some f) rest = append_assoc fs (f ∷ []) rest
+
+-- after these failures, the outcomes that follow are joined one by one
+standing_after : (fs : List Failure) (v : Verdict) (outcomes : List Outcome) → Stands fs v → Standing (fs ++ failures_of outcomes)
+standing_after fs v [] is = record { verdict = v; stands = subst (λ (t : List Failure). Stands t v) (sym (append-nil fs)) is }
+standing_after fs v (o ∷ outcomes) is =
+    subst Standing (failures_joined fs o.failure (failures_of outcomes))
+    (standing_after (fs ++ cons_option o.failure []) (joined_verdict v o.failure) outcomes (Stands-joined fs v o.failure is))
+
+pub verdicts_are_least : VerdictsAreLeast
+verdicts_are_least outcomes =
+    let all : Standing (failures_of outcomes) = standing_after [] Pass outcomes refl in
+    subst (IsVerdict outcomes) (Stands-value outcomes all.verdict all.stands) (Stands-least outcomes all.verdict all.stands)
