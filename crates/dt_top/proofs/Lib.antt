@@ -1,4 +1,6 @@
+pub mod AnAnswer
 pub mod Checking
 pub mod Filing
+pub mod OneAnswer
 pub mod Replying
 pub mod Tasks

@@ -31,7 +31,7 @@ use Rattle.dt_top.proofs.Tasks.{both_told, either, not_dump, not_convert, some_m
 
 -- ---- the answer
 
-usage_is_answer : (i b : List ℕ) → IsAnswer None i b usage_answer
+pub usage_is_answer : (i b : List ℕ) → IsAnswer None i b usage_answer
 usage_is_answer i b = record {
   answers = answers_of b;
   are_answers = of_are b;
@@ -43,7 +43,7 @@ usage_is_answer i b = record {
   convert = λ to is. absurd is;
 }
 
-too_long_is_answer : (asked : Asked) (i b : List ℕ) → asked.task ≡ tasks.Pass → IsTooLong i → IsAnswer (Some asked) i b too_long_answer
+pub too_long_is_answer : (asked : Asked) (i b : List ℕ) → asked.task ≡ tasks.Pass → IsTooLong i → IsAnswer (Some asked) i b too_long_answer
 too_long_is_answer asked i b is long = record {
   answers = answers_of b;
   are_answers = of_are b;
@@ -55,7 +55,7 @@ too_long_is_answer asked i b is long = record {
   convert = λ to other. absurd (not_convert asked.task is other.0);
 }
 
-refused_is_answer : (asked : Asked) (i b : List ℕ) (r : Refusal) (line : List ℕ) → asked.task ≡ tasks.Pass → length i ≤ 16777216
+pub refused_is_answer : (asked : Asked) (i b : List ℕ) (r : Refusal) (line : List ℕ) → asked.task ≡ tasks.Pass → length i ≤ 16777216
     → line ≡ refusal_line r → IsRefused b r → IsAnswer (Some asked) i b (answer (refusal_status r) line)
 refused_is_answer asked i b r line is fits written told = record {
   answers = told.0;
@@ -70,7 +70,7 @@ refused_is_answer asked i b r line is fits written told = record {
   convert = λ to other. absurd (not_convert asked.task is other.0);
 }
 
-report_is_answer : (asked : Asked) (i b : List ℕ) (a : Answer) → asked.task ≡ tasks.Pass → length i ≤ 16777216
+pub report_is_answer : (asked : Asked) (i b : List ℕ) (a : Answer) → asked.task ≡ tasks.Pass → length i ≤ 16777216
     → IsReport i b asked.sources a → IsAnswer (Some asked) i b a
 report_is_answer asked i b a is fits reported = record {
   answers = first_answers reported.harts reported.wide reported.records ++ End (length reported.records) ∷ [];

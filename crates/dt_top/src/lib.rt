@@ -2,6 +2,7 @@
 //! `difftest` ends with.
 #![tactic(auto)]
 
+mod laws;
 mod replies;
 mod running;
 #[cfg(test)]
@@ -9,4 +10,5 @@ mod tests;
 mod top;
 
 pub use dt_words::{Command, Task, WordsRefusal, parse_words};
+pub use laws::{a_run_has_an_answer, a_run_has_one_answer};
 pub use top::run_plain;
