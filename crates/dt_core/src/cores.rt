@@ -32,7 +32,14 @@ impl<J: Judgement> Model for Core<J> {
 
     ghost Value = { CoreState J };
 
-    ghost view = { λ c. record { file = c.file.items; fed = c.fed; is_ended = c.is_ended; harts = c.harts.items; seen = c.seen.items; history = c.history.items } };
+    ghost view = { λ c. record {
+      file = c.file.items;
+      fed = c.fed;
+      is_ended = c.is_ended;
+      harts = c.harts.items;
+      seen = c.seen.items;
+      history = c.history.items;
+    } };
 }
 
 fn new_harts<J: Judgement>(alloc: Global, harts: u8) -> Result<Vec<Hart<J>>, AllocError>
@@ -215,7 +222,8 @@ impl<J: Judgement> Core<J> {
     fn judge_at(&mut self, hart: usize, notes: &[Note]) -> Result<(), AllocError>
         requires safe { IsSafe self.old }
         requires within { hart < length self.old.harts }
-        ensures judged { OnOk result ((s : HartState J) → slice_get self.old.harts hart ≡ Some s → self.new ≡ judge_next J.meaning self.old hart s notes.now (next_record s)) }
+        ensures judged { OnOk result ((s : HartState J) → slice_get self.old.harts hart ≡ Some s
+            → self.new ≡ judge_next J.meaning self.old hart s notes.now (next_record s)) }
         ensures unchanged { OnErr result (self.new ≡ self.old) }
     {
         let harts = self.harts.len() as u8;

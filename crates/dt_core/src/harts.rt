@@ -72,7 +72,8 @@ impl<J: Judgement> Hart<J> {
 
     /// Takes the first record of the queue, where there is one.
     pub fn take(&mut self) -> Result<(), AllocError>
-        ensures taken { OnOk result ((r : Record) (rs : List Record) → self.old.queue ≡ r ∷ rs → self.new ≡ record self.old { queue = rs; taken = self.old.taken ++ r ∷ [] }) }
+        ensures taken { OnOk result ((r : Record) (rs : List Record) → self.old.queue ≡ r ∷ rs
+            → self.new ≡ record self.old { queue = rs; taken = self.old.taken ++ r ∷ [] }) }
         ensures empty { OnOk result (self.old.queue ≡ [] → self.new ≡ self.old) }
         ensures unchanged { OnErr result (self.new ≡ self.old) }
     {

@@ -107,7 +107,10 @@ fn tell_hart<J: Judgement>(
     requires workers { 1 ≤ by.workers }
     requires own { AreOwn hart state.now.taken }
     requires few { length state.now.taken ≤ RECORD_LIMIT }
-    ensures { OnOk result (history.new.items ≡ (if is_mine by.workers by.worker hart then history.old.items ++ entries_of by.worker (news_of by.is_ended hart state.now (notes_in history.old.items)) else history.old.items)) }
+    ensures { OnOk result (history.new.items
+        ≡ (if is_mine by.workers by.worker hart
+        then history.old.items ++ entries_of by.worker (news_of by.is_ended hart state.now (notes_in history.old.items))
+        else history.old.items)) }
 {
     if is_mine(by.workers, by.worker, hart) {
         let notes = notes_in(alloc, history)?;

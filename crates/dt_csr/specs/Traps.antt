@@ -26,7 +26,8 @@ trap_pc vector cause =
 -- is it a cause whose tval is the virtual address of a fetch, load or store: access faults, page faults and addresses
 -- that are not aligned (Volume II, section 3.1.16)
 abbrev pub has_address : ℕ → Bool
-has_address cause = list_any (λ known. cause == known) (FETCH_ACCESS ∷ LOAD_MISALIGNED ∷ LOAD_ACCESS ∷ STORE_MISALIGNED ∷ STORE_ACCESS ∷ FETCH_PAGE ∷ LOAD_PAGE ∷ STORE_PAGE ∷ [])
+has_address cause = list_any (λ known. cause == known)
+    (FETCH_ACCESS ∷ LOAD_MISALIGNED ∷ LOAD_ACCESS ∷ STORE_MISALIGNED ∷ STORE_ACCESS ∷ FETCH_PAGE ∷ LOAD_PAGE ∷ STORE_PAGE ∷ [])
 
 -- the tval that a cause is expected to come with, where the access or the instruction has this address, these bits and
 -- this pc: the address, the bits of an illegal instruction, the pc of a breakpoint, else 0 (this project's own choice

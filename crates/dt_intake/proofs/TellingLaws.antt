@@ -1,5 +1,5 @@
 use Rattle.std.proofs.Common.{ℕ, ◌≡◌, ◌-◌, ◌≤◌, ◌==◌, ◌⊎◌, Bool, true, false, cond, Option, Some, None, List, [], ◌∷◌, ◌++◌, length, map, take, drop, refl, sym, ap, ◌∙◌, subst, inl, inr, arith, eq-eqb, eqb-true}
-use Rattle.std.specs.Prelude.{◌≢◌, option_map, option_to_list}
+use Rattle.std.specs.Prelude.{◌≢◌, IsTrue, option_map, option_to_list}
 use Rattle.std.specs.List.{slice_get, list_all}
 use Rattle.std.proofs.lemmas.Bool.{and_parts, both_ways, cases_Bool, ne_eqb}
 use Rattle.std.proofs.lemmas.List.{append_assoc, append-nil, take_all, take-append-drop, take-append-le}
@@ -13,7 +13,7 @@ use Rattle.dt_writes.specs.OwnWrites.{own_writes_from}
 use Rattle.dt_core.specs.Notes.{write_in, announced, hart_writes}
 use Rattle.dt_intake.specs.Fronts.{usable_front}
 use Rattle.dt_intake.specs.Intakes.{IntakeView, is_feed_end, usable_of, is_over, reach_of, news_of}
-use Rattle.dt_intake.specs.Told.{is_of, own_notes, told_of, IsMarked, IsEnded, IsTold}
+use Rattle.dt_intake.specs.Told.{is_of, own_notes, told_of, IsMarked, IsEnded, HasEnd, IsTold}
 use Rattle.dt_intake.specs.Laws.{NothingIsTold, TakingKeepsTold, RoomKeepsTold, TellingGoesOn, OwnNotesDecide, NewsIsOfOneHart}
 use Rattle.dt_intake.proofs.FrontLaws.{front_after-grows, front_after-whole, own-front_after}
 use Rattle.dt_intake.proofs.Splits.{filter-pass, filter-drop, filter-all, all_drop, prefix-length, not_last, last-split, StandsIn, append-split, single, KeptAt, filter-split}
@@ -27,10 +27,11 @@ Nothing-told hart = record {
   wrote = refl;
   marks = λ before after stamp is. absurd (not_last before after (Mark hart stamp) is);
   ends = λ before after is. absurd (not_last before after (End hart) is);
+  end_stands = λ never. absurd (let no : ⊥ = cc in no);
 }
 
 pub Room-told : RoomKeepsTold
-Room-told v room notes told = record { within = told.within; wrote = told.wrote; marks = told.marks; ends = told.ends }
+Room-told v room notes told = record { within = told.within; wrote = told.wrote; marks = told.marks; ends = told.ends; end_stands = told.end_stands }
 
 -- one more record
 
@@ -43,6 +44,7 @@ take-end v notes goes told = record {
   wrote = told.wrote;
   marks = told.marks;
   ends = λ before after is. absurd (not_ended v notes before after goes told is);
+  end_stands = told.end_stands;
 }
 
 take-more : (v : IntakeView) (r : Record) (notes : List Note) → v.ended ≡ false → IsTold v notes
@@ -58,6 +60,7 @@ take-more v r notes goes told =
       marks = λ before after stamp is.
           subst (λ (rs : List Record). IsMarked rs stamp (hart_writes v.hart (announced before))) (sym same) (told.marks before after stamp is);
       ends = λ before after is. absurd (not_ended v notes before after goes told is);
+      end_stands = told.end_stands;
     }
 
 pub Taking-told : TakingKeepsTold
@@ -124,6 +127,10 @@ Own-decides v notes others same told =
           let at = own-before v.hart notes others before after (End v.hart) here same is in
           subst (λ (ws : List Write). IsEnded v.hart v.taken v.ended ws) (same-before v.hart at.earlier before at.before_is)
           (told.ends at.earlier at.later at.split);
+      end_stands = λ over.
+          let found = told.end_stands over in
+          let at = own-before v.hart others notes found.before found.after (End v.hart) here (sym same) found.split in
+          record { before = at.earlier; after = at.later; split = at.split };
     }
 
 -- the news
@@ -271,12 +278,23 @@ tell-end v notes before after told is =
           }
     ]
 
+-- the news of a hart that is over ends with its End
+tell-stands : (v : IntakeView) (notes : List Note) → IsTrue (is_over v) → HasEnd v.hart (notes ++ news_of v)
+tell-stands v notes over = record {
+  before = notes ++ map Wrote (fresh_writes v);
+  after = [];
+  split =
+      ap (λ (b : Bool). notes ++ (map Wrote (fresh_writes v) ++ reach_of v.hart b (usable_of v))) over
+      ∙ sym (append_assoc notes (map Wrote (fresh_writes v)) (End v.hart ∷ []));
+}
+
 pub Telling-told : TellingGoesOn
 Telling-told v notes told = record {
   within = omega arith;
   wrote = tell-wrote v notes told;
   marks = λ before after stamp is. tell-mark v notes before after stamp told is;
   ends = λ before after is. tell-end v notes before after told is;
+  end_stands = tell-stands v notes;
 }
 
 -- the news of another hart

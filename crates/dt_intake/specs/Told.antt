@@ -40,6 +40,13 @@ pub record IsEnded (hart : ℕ) (taken : List Record) (ended : Bool) (writes : L
   pub usable : usable_front hart taken ≡ taken
   pub its_writes : writes ≡ own_writes_from 0 taken
 
+-- an End of the hart stands among the notes
+pub record HasEnd (hart : ℕ) (notes : List Note) : Type 0 where
+  pub before : List Note
+  pub after : List Note
+  pub split : notes ≡ before ++ End hart ∷ after
+
+-- What notes tell of a hart.
 pub record IsTold (v : IntakeView) (notes : List Note) : Type 0 where
   -- no more is told than is usable
   pub within : v.told ≤ length (usable_of v)
@@ -51,3 +58,5 @@ pub record IsTold (v : IntakeView) (notes : List Note) : Type 0 where
   -- an End of the hart stands there only where it is over, and before it stand all its writes
   pub ends : (before after : List Note) → notes ≡ before ++ End v.hart ∷ after
       → IsEnded v.hart v.taken v.ended (hart_writes v.hart (announced before))
+  -- where its End was told, an End of the hart stands there
+  pub end_stands : IsTrue v.end_told → HasEnd v.hart notes

@@ -180,7 +180,7 @@ fn fetches(rt: HostRuntime) -> Result<(), Fail> {
 
 /// Half a million writes in one cycle: an entry, a byte of another page again and again, and a byte
 /// of a third.
-fn many_writes(rt: &impl Abort, alloc: Global) -> Result<Moments, AllocError> {
+pub fn many_writes(rt: &impl Abort, alloc: Global) -> Result<Moments, AllocError> {
     let mut moments = Moments::empty(alloc, Image::of(Vec::new(alloc)));
     for seq in 0..500_000 {
         let w = match seq {

@@ -34,11 +34,13 @@ pub record QueueName : Type 0 where
 
 -- the queue of a feeding end
 abbrev pub feed_queue : Feed → QueueName
-feed_queue f = record { words = f.producer.end.words; slots = f.producer.end.slots; names = f.producer.end.names; heap = f.producer.end.heap }
+feed_queue f =
+    record { words = f.producer.end.words; slots = f.producer.end.slots; names = f.producer.end.names; heap = f.producer.end.heap }
 
 -- the queue of a taking end
 abbrev pub take_queue : Take → QueueName
-take_queue t = record { words = t.consumer.end.words; slots = t.consumer.end.slots; names = t.consumer.end.names; heap = t.consumer.end.heap }
+take_queue t =
+    record { words = t.consumer.end.words; slots = t.consumer.end.slots; names = t.consumer.end.names; heap = t.consumer.end.heap }
 
 -- the two ends of one queue
 abbrev pub ArePair : Feed → Take → Type 0

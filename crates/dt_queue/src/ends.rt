@@ -53,7 +53,7 @@ impl Feed {
     /// free place. That the look sees the newest step of the other end is tested alone.
     pub fn push(&mut self, event: Record) -> Push
         ensures queue { feed_queue self.new ≡ feed_queue self.old }
-        ensures fed { MatchPush result (fed self.new ≡ fed self.old ++ event ∷ []) (λ back. (back ≡ event) × (fed self.new ≡ fed self.old)) }
+        ensures fed { MatchPush result (fed self.new ≡ fed self.old ++ event ∷ []) (λ it. (it ≡ event) × (fed self.new ≡ fed self.old)) }
         ensures full { MatchPush result (known_free self.old ≤ known_free self.new + 1) (λ _. known_free self.new ≡ 0) }
         ensures succeeds { 0 < known_free self.old → result ≡ Push.Done }
     {
@@ -70,7 +70,7 @@ impl Take {
     pub fn pop(&mut self) -> Pop
         ensures queue { take_queue self.new ≡ take_queue self.old }
         ensures taken { MatchPop result (taken self.new ≡ taken self.old) (λ event. taken self.new ≡ taken self.old ++ event ∷ []) }
-        ensures known { MatchPop result (known_items self.new ≡ []) (λ event. IsPrefix (known_items self.old) (event ∷ known_items self.new)) }
+        ensures known { MatchPop result (known_items self.new ≡ []) (λ it. IsPrefix (known_items self.old) (it ∷ known_items self.new)) }
         ensures succeeds { 0 < length (known_items self.old) → IsItem result }
     {
         match self.consumer.pop() {

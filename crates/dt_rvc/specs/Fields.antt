@@ -64,7 +64,8 @@ imm_lui half = sign_extended 18 (field 12 1 half * 2 ^ 17 + field 2 5 half * 2 ^
 abbrev pub imm_jump : ℕ → ℕ
 imm_jump half =
     sign_extended 12
-    (field 12 1 half * 2 ^ 11 + field 11 1 half * 2 ^ 4 + field 9 2 half * 2 ^ 8 + field 8 1 half * 2 ^ 10 + field 7 1 half * 2 ^ 6 + field 6 1 half * 2 ^ 7 + field 3 3 half * 2 ^ 1 + field 2 1 half * 2 ^ 5)
+    (field 12 1 half * 2 ^ 11 + field 11 1 half * 2 ^ 4 + field 9 2 half * 2 ^ 8 + field 8 1 half * 2 ^ 10
+    + field 7 1 half * 2 ^ 6 + field 6 1 half * 2 ^ 7 + field 3 3 half * 2 ^ 1 + field 2 1 half * 2 ^ 5)
 
 -- imm[8|4:3] in bits 12:10, imm[7:6|2:1|5] in bits 6:2, signed
 abbrev pub imm_branch : ℕ → ℕ

@@ -21,7 +21,8 @@ format_s opcode funct3 rs1 rs2 imm =
 -- imm[12|10:5], rs2, rs1, funct3, imm[4:1|11] and the opcode
 abbrev pub format_b : ℕ → ℕ → ℕ → ℕ → ℕ → ℕ
 format_b opcode funct3 rs1 rs2 imm =
-    opcode + field 11 1 imm * 2 ^ 7 + field 1 4 imm * 2 ^ 8 + funct3 * 2 ^ 12 + rs1 * 2 ^ 15 + rs2 * 2 ^ 20 + field 5 6 imm * 2 ^ 25 + field 12 1 imm * 2 ^ 31
+    opcode + field 11 1 imm * 2 ^ 7 + field 1 4 imm * 2 ^ 8 + funct3 * 2 ^ 12 + rs1 * 2 ^ 15 + rs2 * 2 ^ 20
+    + field 5 6 imm * 2 ^ 25 + field 12 1 imm * 2 ^ 31
 
 -- imm[31:12], rd and the opcode
 abbrev pub format_u : ℕ → ℕ → ℕ → ℕ

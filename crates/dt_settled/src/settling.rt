@@ -58,6 +58,7 @@ impl Settled {
         ensures image { self.new.image ≡ self.old.image }
         ensures grows { IsPrefix self.old.writes self.new.writes }
         ensures looks { LooksAt (drop self.old.seen notes.now) least self.old self.new }
+        ensures done { OnOk result (first_below least self.new.waiting ≡ None) }
     {
         self.see_more(&notes[self.seen..], least)
     }
@@ -72,6 +73,7 @@ impl Settled {
         ensures image { self.new.image ≡ self.old.image }
         ensures grows { IsPrefix self.old.writes self.new.writes }
         ensures looks { LooksAt more.now least self.old self.new }
+        ensures done { OnOk result (first_below least self.new.waiting ≡ None) }
     {
         // More notes than can be counted are more than memory can hold.
         if usize::MAX - self.seen < more.len() {

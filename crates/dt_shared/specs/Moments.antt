@@ -30,11 +30,13 @@ word_list w = w.ticket ∷ w.serving ∷ w.count ∷ w.halt ∷ []
 
 -- the line before the slot. `front` is how many tickets were served so far
 pub record Lined (front : ℕ) (history : List Entry) (ticket serving : ℕ) (home : Home) (views : List View) : Type 0 where
-  -- each seat in line has a ticket, the served one or one of those right behind it, and no two have the same; the next comer draws the one behind all of these. The two words wrap at 2^64
+  -- each seat in line has a ticket, the served one or one of those right behind it, and no two have the same; the next comer
+  -- draws the one behind all of these. The two words wrap at 2^64
   pub served : serving ≡ front % 2 ^ 64
   pub drawn : ticket ≡ (front + total in_line views) % 2 ^ 64
   pub tickets : EachView views (λ v. IfSome v.ticket (λ t. (front ≤ t) × (t < front + total in_line views)))
-  pub apart : (i j : ℕ) (v w : View) (t : ℕ) → get_elem? views i ≡ some v → get_elem? views j ≡ some w → v.ticket ≡ Some t → w.ticket ≡ Some t → i ≡ j
+  pub apart : (i j : ℕ) (v w : View) (t : ℕ) → get_elem? views i ≡ some v → get_elem? views j ≡ some w
+      → v.ticket ≡ Some t → w.ticket ≡ Some t → i ≡ j
   -- a seat that stands for no pass has no ticket
   pub in_person : EachView views (λ v. in_line v ≤ length v.passes)
   -- the history lies in the slot, or with the one seat that may take it out: the seat that is served
@@ -63,7 +65,8 @@ pub record Kept (most made : ℕ) (history : List Entry) (count halt : ℕ) (vie
   pub runs : halt ≡ 0 → over_passes has_stopped views ≡ 0
   pub saw : EachPass views (λ k. k.saw_stop ≡ true → halt ≢ 0)
 
--- the rule over words, slot and views. Where one seat took in the pass of another, the pass is among the first one's from then on, and the other has none
+-- the rule over words, slot and views. Where one seat took in the pass of another, the pass is among the first one's from then
+-- on, and the other has none
 pub record Moment (most : ℕ) (w : Words) (home : Home) (views : List View) : Type 0 where
   pub front : ℕ
   pub history : List Entry

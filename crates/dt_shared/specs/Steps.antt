@@ -37,7 +37,9 @@ Draws before found after = (t : ℕ) × (after ≡ (waiting before.0.passes befo
 -- where the ticket is served the slot was taken, with the history, of which is true what the passes know
 abbrev pub Comes : Seated → ℕ → Seated → Type 0
 Comes before found after =
-    (found ≡ ticket_of before.0 % 2 ^ 64 → (list : Stored) × (after ≡ (holding before.0.passes before.0.made (ticket_of before.0) list.items, (0, list) ∷ [])) × All (Agrees list.items) before.0.passes)
+    (found ≡ ticket_of before.0 % 2 ^ 64 → (list : Stored)
+    × (after ≡ (holding before.0.passes before.0.made (ticket_of before.0) list.items, (0, list) ∷ []))
+    × All (Agrees list.items) before.0.passes)
     × (found ≢ ticket_of before.0 % 2 ^ 64 → after ≡ before)
 
 -- what stands in the slot behind the history became part of it
@@ -45,14 +47,16 @@ abbrev pub published : Seated → Known → Known
 published m k = record k { seen = list_of m.1; own = k.own ++ notes_in (drop (length (held_of m.0)) (list_of m.1)) }
 
 abbrev pub Publishes : Seated → ℕ → Seated → Type 0
-Publishes before found after = after ≡ (holding (map (published before) before.0.passes) before.0.made (ticket_of before.0) (list_of before.1), before.1)
+Publishes before found after =
+    after ≡ (holding (map (published before) before.0.passes) before.0.made (ticket_of before.0) (list_of before.1), before.1)
 
 -- the history was seen
 abbrev pub looked : Seated → Known → Known
 looked m k = record k { seen = held_of m.0 }
 
 abbrev pub Looks : Seated → ℕ → Seated → Type 0
-Looks before found after = after ≡ (holding (map (looked before) before.0.passes) before.0.made (ticket_of before.0) (held_of before.0), before.1)
+Looks before found after =
+    after ≡ (holding (map (looked before) before.0.passes) before.0.made (ticket_of before.0) (held_of before.0), before.1)
 
 -- the slot was given back
 abbrev pub Leaves : Seated → ℕ → Seated → Type 0

@@ -59,36 +59,9 @@ pages_of a rs1 rs2 =
 abbrev pub csr_operand : Arch → ℕ → Bool → ℕ
 csr_operand a source immediate = if immediate then source else register a source
 
--- The plans of instructions that raise nothing by themselves.
-
--- of the system's instructions; WFI does nothing
-abbrev pub system_plan : Arch → Instr → ℕ → Planned
-system_plan a (Fence fm pred succ) bits = fence_of fm pred succ
-system_plan a FenceI bits = InstructionFence
-system_plan a (Csr op number rd source immediate) bits =
-    Access number op (csr_operand a source immediate) (reads_csr op rd) (writes_csr op source) rd
-system_plan a Sret bits = Returns false
-system_plan a Mret bits = Returns true
-system_plan a (SfenceVma rs1 rs2) bits = pages_of a rs1 rs2
-system_plan a i bits = Done 0 0 (next_of a bits)
-
--- of atomics, and of the system's
-abbrev pub atomic_plan : Arch → Instr → ℕ → Planned
-atomic_plan a (Lr width aq rl rd rs1) bits = NeedsAtomic (register a rs1) width LoadReserved aq rl rd 0
-atomic_plan a (Sc width aq rl rd rs1 rs2) bits =
-    NeedsAtomic (register a rs1) width StoreConditional aq rl rd (low_bytes_of width (register a rs2))
-atomic_plan a (Amo op width aq rl rd rs1 rs2) bits =
-    NeedsAtomic (register a rs1) width (ReadModifyWrite op) aq rl rd (low_bytes_of width (register a rs2))
-atomic_plan a i bits = system_plan a i bits
-
--- of those that access memory, and of the system's
-abbrev pub access_plan : Arch → Instr → ℕ → Planned
-access_plan a (Load width signed rd rs1 imm) bits = NeedsLoad (offset_address a rs1 imm) width signed rd
-access_plan a (Store width rs1 rs2 imm) bits =
-    NeedsStore (offset_address a rs1 imm) width (low_bytes_of width (register a rs2))
-access_plan a i bits = atomic_plan a i bits
-
--- of those that compute or jump, and of all others
+-- What each instruction asks for where it raises nothing by itself, a row for each (Volume I, the chapters of the base and of its
+-- extensions; Volume II, of the privileged instructions). The last row is WFI, which does nothing; ECALL and EBREAK always raise,
+-- so that nobody asks for theirs.
 abbrev pub legal_plan : Arch → Instr → ℕ → Planned
 legal_plan a (Lui rd imm) bits = Done rd imm (next_of a bits)
 legal_plan a (Auipc rd imm) bits = Done rd (sum_of 64 a.pc imm) (next_of a bits)
@@ -98,7 +71,22 @@ legal_plan a (Branch cond rs1 rs2 imm) bits =
     Done 0 0 (if compare_value cond (register a rs1) (register a rs2) then sum_of 64 a.pc imm else next_of a bits)
 legal_plan a (AluImm op word rd rs1 imm) bits = Done rd (alu_value op word (register a rs1) imm) (next_of a bits)
 legal_plan a (Alu op word rd rs1 rs2) bits = Done rd (alu_value op word (register a rs1) (register a rs2)) (next_of a bits)
-legal_plan a i bits = access_plan a i bits
+legal_plan a (Load width signed rd rs1 imm) bits = NeedsLoad (offset_address a rs1 imm) width signed rd
+legal_plan a (Store width rs1 rs2 imm) bits =
+    NeedsStore (offset_address a rs1 imm) width (low_bytes_of width (register a rs2))
+legal_plan a (Lr width aq rl rd rs1) bits = NeedsAtomic (register a rs1) width LoadReserved aq rl rd 0
+legal_plan a (Sc width aq rl rd rs1 rs2) bits =
+    NeedsAtomic (register a rs1) width StoreConditional aq rl rd (low_bytes_of width (register a rs2))
+legal_plan a (Amo op width aq rl rd rs1 rs2) bits =
+    NeedsAtomic (register a rs1) width (ReadModifyWrite op) aq rl rd (low_bytes_of width (register a rs2))
+legal_plan a (Fence fm pred succ) bits = fence_of fm pred succ
+legal_plan a FenceI bits = InstructionFence
+legal_plan a (Csr op number rd source immediate) bits =
+    Access number op (csr_operand a source immediate) (reads_csr op rd) (writes_csr op source) rd
+legal_plan a Sret bits = Returns false
+legal_plan a Mret bits = Returns true
+legal_plan a (SfenceVma rs1 rs2) bits = pages_of a rs1 rs2
+legal_plan a i bits = Done 0 0 (next_of a bits)
 
 -- the plan of an instruction with these bits
 abbrev pub plan_of : Arch → Instr → ℕ → Planned

@@ -20,7 +20,8 @@ pub fn finish(a: &mut Arch, len: u8, p: Planned, answer: Answer)
     requires plan { IsFinishable p }
     requires answer { IsAnswerTo p answer }
     ensures state { a.new ≡ finish_of a.old len p answer }
-    ensures step { (i : Instr) (bits : ℕ) → IsDecoded i → p ≡ plan_of a.old i bits → len ≡ length_of bits → a.new ≡ step_of a.old i bits (value_in answer) }
+    ensures step { (i : Instr) (bits : ℕ) → IsDecoded i → p ≡ plan_of a.old i bits → len ≡ length_of bits
+        → a.new ≡ step_of a.old i bits (value_in answer) }
     ensures arch { IsArch a.new }
     ensures reachable { IsReachable a.old → HasEvenNext p → IsReachable a.new }
 {

@@ -4,7 +4,8 @@ ghost use Rattle.dt_decode.specs.Decoded.{IsDecoded};
 ghost use Rattle.dt_step.specs.State.{IsArch};
 ghost use Rattle.dt_step.specs.Alignment.{AccessesAligned};
 ghost use Rattle.dt_step.specs.Causes.{due_cause, due_tval};
-ghost use Rattle.dt_step.specs.Plans.{length_of, next_of, system_plan, atomic_plan, access_plan, legal_plan, plan_of, NamesRegister, IsFinishable, HasEvenTarget, HasEvenNext, fence_of, pages_of, csr_operand};
+ghost use Rattle.dt_step.specs.PlanParts.{system_plan, atomic_plan, access_plan};
+ghost use Rattle.dt_step.specs.Plans.{length_of, next_of, legal_plan, plan_of, NamesRegister, IsFinishable, HasEvenTarget, HasEvenNext, fence_of, pages_of, csr_operand};
 
 use crate::causes::{address_of, due_cause, offset_address, reads_csr, value_of, writes_csr};
 use crate::{Arch, AtomicOp, Planned};
@@ -18,7 +19,8 @@ pub fn plan(a: &Arch, i: Instr, bits: u32) -> Planned
     requires arch { IsArch a.now }
     requires decoded { IsDecoded i }
     ensures plan { result ≡ plan_of a.now i bits }
-    ensures due { MatchOption (due_cause a.now i) (IsFinishable result) (λ cause. result ≡ Planned.Raises cause (due_tval a.now i bits cause)) }
+    ensures due { MatchOption (due_cause a.now i) (IsFinishable result)
+        (λ cause. result ≡ Planned.Raises cause (due_tval a.now i bits cause)) }
     ensures registers { NamesRegister result }
     ensures aligned { AccessesAligned result }
     ensures even { a.now.pc % 2 ≡ 0 → HasEvenTarget i → HasEvenNext result }

@@ -7,7 +7,8 @@ use Rattle.dt_record.specs.Keys.{key_below}
 use Rattle.dt_record.specs.KeyLaws.{key_below-back}
 use Rattle.dt_verdict.specs.declared.tallies.Noted.{Noted}
 use Rattle.dt_tallies.specs.Naming.{insert_note, notes_by_key}
-use Rattle.dt_writes.specs.KeyOrder.{not_below-chain, under, keys_rise}
+use Rattle.dt_writes.specs.KeyOrder.{under, keys_rise}
+use Rattle.dt_writes.proofs.KeyOrder.{not_below-chain}
 
 -- Notes sorted by insertion, which keeps the order of those with one key.
 

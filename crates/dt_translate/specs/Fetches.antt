@@ -36,7 +36,8 @@ pub record IsChosen (image : List ℕ) (writes : List Write) (window since : Spa
 
 -- no moments of both spans fetch the halfword
 abbrev pub IsNeverFetched : List ℕ → List Write → Span → Span → WalkArgs → ℕ → Type 0
-IsNeverFetched image writes window since a half = (k1 k2 : ℕ) → IsWithin window k1 → IsWithin since k2 → ¬ (IsFetched image writes a half k1 k2)
+IsNeverFetched image writes window since a half =
+    (k1 k2 : ℕ) → IsWithin window k1 → IsWithin since k2 → ¬ (IsFetched image writes a half k1 k2)
 
 -- the newest moment of a span that holds the halfword that is translated at k1
 abbrev pub held_moment : List ℕ → List Write → Span → WalkArgs → ℕ → ℕ → Option ℕ

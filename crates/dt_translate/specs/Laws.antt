@@ -23,7 +23,8 @@ SameFirstWrites = (image : List ℕ) (ws vs : List Write) (last k : ℕ) → tak
 
 -- two lists of writes that begin alike up to the ends of two spans have the same chosen moments
 pub record AreAlikeWithin (image : List ℕ) (ws vs : List Write) (window since : Span) (a : WalkArgs) : Type 0 where
-  pub allowed : (ram_only : Bool) (wanted : WalkAnswer) → allowed_moment image ws window a ram_only wanted ≡ allowed_moment image vs window a ram_only wanted
+  pub allowed : (ram_only : Bool) (wanted : WalkAnswer)
+      → allowed_moment image ws window a ram_only wanted ≡ allowed_moment image vs window a ram_only wanted
   pub fetched : (half : ℕ) → fetch_moments image ws window since a half ≡ fetch_moments image vs window since a half
 
 abbrev pub SameWindows : Type 0

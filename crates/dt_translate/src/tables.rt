@@ -42,7 +42,8 @@ pub fn steady_walk(moments: &Moments, k: u32, a: WalkArgs) -> u32
     requires within { k ≤ length moments.now.writes }
     requires args { CanWalk a }
     ensures within { result ≤ k }
-    ensures steady { (j : ℕ) → result ≤ j → j ≤ k → walk_of (entry_at moments.now.image moments.now.writes j) a ≡ walk_of (entry_at moments.now.image moments.now.writes k) a }
+    ensures steady { (j : ℕ) → result ≤ j → j ≤ k
+        → walk_of (entry_at moments.now.image moments.now.writes j) a ≡ walk_of (entry_at moments.now.image moments.now.writes k) a }
 {
     steady_words_stay();
     reads_decide();

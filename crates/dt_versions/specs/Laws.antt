@@ -6,7 +6,7 @@ use Rattle.dt_record.specs.Memory.{covers, source_at, moment_of, is_touched}
 use Rattle.dt_record.specs.Visible.{IsVisible}
 use Rattle.dt_record.specs.LoadSources.{Rank, Lowest, At, rank_below}
 use Rattle.dt_versions.specs.History.{are_in_order, writes_until}
-use Rattle.dt_versions.specs.Spans.{AreVisible, first_visible, last_visible}
+use Rattle.dt_versions.specs.Spans.{AreVisible, IsLeastVisible, IsGreatestVisible, first_visible, last_visible}
 
 -- Laws of memory over time (this project's own).
 
@@ -14,6 +14,15 @@ use Rattle.dt_versions.specs.Spans.{AreVisible, first_visible, last_visible}
 abbrev pub VisibleIsInterval : Type 0
 VisibleIsInterval = (writes : List Write) (key : Key) (at : ℕ) → IsTrue (are_in_order writes) → at ≤ key.stamp
     → AreVisible writes key at (first_visible writes key at) (last_visible writes key at)
+
+-- the first is the least of the moments that are visible, and the last the greatest
+abbrev pub FirstVisibleIsLeast : Type 0
+FirstVisibleIsLeast = (writes : List Write) (key : Key) (at : ℕ) → IsTrue (are_in_order writes) → at ≤ key.stamp
+    → IsLeastVisible writes key at (first_visible writes key at)
+
+abbrev pub LastVisibleIsGreatest : Type 0
+LastVisibleIsGreatest = (writes : List Write) (key : Key) (at : ℕ) → IsTrue (are_in_order writes) → at ≤ key.stamp
+    → IsGreatestVisible writes key at (last_visible writes key at)
 
 -- where the source of a byte stands: the image below all keys
 abbrev pub source_rank : Option Key → Rank

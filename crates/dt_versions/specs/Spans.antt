@@ -6,6 +6,18 @@ use Rattle.dt_record.specs.Visible.{must_see, cannot_see, IsVisible}
 
 -- The visible moments lie between two ends (this project's own).
 
+-- a moment is visible, and no earlier one is
+pub record IsLeastVisible (writes : List Write) (key : Key) (at k : ℕ) : Type 0 where
+  pub visible : IsVisible writes key at k
+  pub least : (j : ℕ) → IsVisible writes key at j → k ≤ j
+
+-- a moment is visible, and no later one is
+pub record IsGreatestVisible (writes : List Write) (key : Key) (at k : ℕ) : Type 0 where
+  pub visible : IsVisible writes key at k
+  pub greatest : (j : ℕ) → IsVisible writes key at j → j ≤ k
+
+-- How these two are found; a law says that they are so found wherever the writes stand in order.
+
 -- the least visible moment: all writes but the last ones that need not be seen
 abbrev pub first_visible : List Write → Key → ℕ → ℕ
 first_visible writes key at = length writes - suffix_len (λ w. not (must_see key at w)) writes

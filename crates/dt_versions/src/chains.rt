@@ -171,7 +171,8 @@ fn grow(lines: &mut Vec<Vec<u32>>, place: usize) -> Result<(), AllocError>
 /// Adds a number to the chain at a place, in which there is room.
 pub fn push_moment(lines: &mut Vec<Vec<u32>>, place: usize, number: u32)
     requires { HasRoom lines.old.items place }
-    ensures { (other : ℕ) → chain_of lines.new.items other ≡ (if other == place then chain_of lines.old.items place ++ number ∷ [] else chain_of lines.old.items other) }
+    ensures { (other : ℕ) → chain_of lines.new.items other
+        ≡ (if other == place then chain_of lines.old.items place ++ number ∷ [] else chain_of lines.old.items other) }
 {
     if let Some(chain) = lines.get_mut(place) {
         let _ = chain.push(number);

@@ -1,11 +1,19 @@
 //! Laws of the definitions, for the crates above. The functions do nothing.
-ghost use Rattle.dt_versions.specs.Laws.{EarlierWritesAreHeld, VisibleIsInterval, SourcesRise, LaterMomentsLieSince, LaterWritesDoNotCount, OwnMomentIsVisible};
+ghost use Rattle.dt_versions.specs.Laws.{EarlierWritesAreHeld, VisibleIsInterval, SourcesRise, FirstVisibleIsLeast, LastVisibleIsGreatest, LaterMomentsLieSince, LaterWritesDoNotCount, OwnMomentIsVisible};
 ghost use Rattle.dt_versions.specs.Words.{SteadyBytesStay, SteadySourcesStay, SteadyWordsStay};
 
 /// The visible moments of a record lie between two ends, and there is always one.
 pub fn visible_is_interval()
     ensures { VisibleIsInterval }
 {}
+
+/// The ends of the visible moments, as they are computed, are the least and the greatest of them.
+pub fn visible_ends_are_extreme()
+    ensures first { FirstVisibleIsLeast }
+    ensures last { LastVisibleIsGreatest }
+{
+    visible_is_interval();
+}
 
 /// The source of a byte at a moment never falls as the moment rises.
 pub fn sources_rise()

@@ -13,6 +13,6 @@ mod words;
 
 pub use laws::{
     later_writes_do_not_count, own_moments_are_visible, sources_rise, steady_words_stay,
-    visible_is_interval,
+    visible_ends_are_extreme, visible_is_interval,
 };
-pub use moments::{Moments, Span, WRITE_LIMIT};
+pub use moments::{Moments, Span};

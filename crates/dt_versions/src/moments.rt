@@ -1,7 +1,6 @@
 ghost use Rattle.std.specs.Prelude.{◌≡◌, ℕ, ◌-◌, ◌%◌, ◌++◌, ◌∷◌, [], ◌<◌, ◌≤◌, ◌↔◌, length, IsTrue, OnOk, OnErr, IfSome, IfNone};
 ghost use Rattle.std.specs.List.{list_all};
 ghost use Rattle.dt_record.specs.Keys.{key_below};
-ghost use Rattle.dt_record.specs.Lawful.{is_ram_line};
 ghost use Rattle.dt_record.specs.Memory.{memory_at, source_at, moment_of, is_touched};
 ghost use Rattle.dt_versions.specs.History.{history, are_in_order, IsKept, CanAdd};
 ghost use Rattle.dt_versions.specs.Spans.{AreVisible};
@@ -14,12 +13,9 @@ use crate::chains::{
 use crate::reads::last_cover;
 use crate::views::{earlier_len, is_touched, visible_ends};
 use crate::words::{newest_in_word, unchanged_until, word_at, word_place};
-use dt_record::{Image, Key, RAM_END, RAM_START, Write};
+use dt_record::{Image, Key, WRITE_LIMIT, Write, is_ram_line};
 use std::alloc::{AllocError, Global};
 use std::marker::Model;
-
-/// How many writes can be held.
-pub const WRITE_LIMIT: usize = 1_048_576;
 
 /// The moments from the first to the last.
 #[derive(Clone, Copy, Debug, PartialEq, Eq)]
@@ -68,7 +64,9 @@ impl Moments {
     pub fn can_add(&self, w: &Write) -> bool
         ensures { IsTrue result ↔ CanAdd self.now w.now }
     {
-        is_above_all(&self.writes, w.key) && is_ram_line(w.line) && self.writes.len() < WRITE_LIMIT
+        is_above_all(&self.writes, w.key)
+            && is_ram_line(w.line)
+            && self.writes.len() < WRITE_LIMIT as usize
     }
 
     /// Adds a write as the newest one, where `can_add` says that it may be. An `Err` is want of
@@ -206,10 +204,4 @@ fn is_above_all(writes: &[Write], key: Key) -> bool
         Some(w) => w.key < key,
         None => true,
     }
-}
-
-fn is_ram_line(line: u64) -> bool
-    ensures { result ≡ is_ram_line line }
-{
-    line % 64 == 0 && RAM_START <= line && line < RAM_END
 }

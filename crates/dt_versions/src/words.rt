@@ -59,7 +59,7 @@ pub fn unchanged_until(rows: &[Row], chain: &[u32], from: usize, start: usize, l
     requires parted { IsPartitionedBy (is_unchanged rows.now start limit) chain.now }
     ensures within { result ≤ length chain.now }
     ensures passed { (i d : ℕ) → from ≤ i → i < result → is_unchanged rows.now start limit (slice_index_or chain.now i d) ≡ true }
-    ensures rest { (i d : ℕ) → result ≤ i → i < length chain.now → is_unchanged rows.now start limit (slice_index_or chain.now i d) ≡ false }
+    ensures end { (i d : ℕ) → result ≤ i → i < length chain.now → is_unchanged rows.now start limit (slice_index_or chain.now i d) ≡ false }
 {
     let mut low = from;
     let mut step = 1;
@@ -77,7 +77,8 @@ fn count_unchanged(rows: &[Row], chain: &[u32], start: usize, limit: u32) -> usi
     requires start { start ≤ 56 }
     requires parted { IsPartitionedBy (is_unchanged rows.now start limit) chain.now }
     ensures within { result ≤ length chain.now }
-    ensures parts { IsPartitionPoint (λ m. is_unchanged rows.now start limit m ≡ true) (λ m. is_unchanged rows.now start limit m ≡ false) chain.now result }
+    ensures parts { IsPartitionPoint (λ m. is_unchanged rows.now start limit m ≡ true) (λ m. is_unchanged rows.now start limit m ≡ false)
+        chain.now result }
 {
     chain.partition_point(|m| is_unchanged(rows, *m, start, limit))
 }
@@ -115,7 +116,8 @@ pub fn word_at(
 fn byte_after(base: &Image, writes: &[Write], rows: &[Row], newest: u32, addr: u64) -> u8
     requires in_ram { 0x8000_0000 ≤ addr }
     requires before_end { addr < 0x8400_0000 }
-    ensures { result ≡ option_map_or (λ w. slice_index w.bytes (addr % 64)) (numbered writes.now (number_at rows.now newest (addr % 64))) (image_byte base.now addr) }
+    ensures { result ≡ option_map_or (λ w. slice_index w.bytes (addr % 64))
+        (numbered writes.now (number_at rows.now newest (addr % 64))) (image_byte base.now addr) }
 {
     let place = (addr % 64) as usize;
     match numbered_write(writes, number_at(rows, newest, place)) {

@@ -13,10 +13,14 @@ use Rattle.dt_record.specs.declared.keys.Key.{Key}
 use Rattle.dt_record.specs.Keys.{key_below}
 use Rattle.dt_record.specs.contracts.keys.KeyOrd.TheImpl.{ghosts}
 use Rattle.dt_record.specs.KeyLaws.{key_below-itself, key_below-back}
-use Rattle.dt_writes.specs.KeyOrder.{not_below-chain, under, keys_rise}
+use Rattle.dt_writes.specs.KeyOrder.{under, keys_rise}
 
 -- Lists whose elements have keys that do not fall. Two of them that hold the same elements at each
 -- key, in the same order, are one list.
+
+-- a key that is not below a second, which is not below a third, is not below the third
+pub not_below-chain : (a b c : Key) → key_below a b ≡ false → key_below b c ≡ false → key_below a c ≡ false
+not_below-chain a b c first second = grind (arith, nat_tests)
 
 not_below-back : (a b : Key) → key_below a b ≡ true → key_below b a ≡ false
 not_below-back a b below = key_below-back a b below

@@ -1,5 +1,5 @@
 mod Filling
-mod KeyOrder
+pub mod KeyOrder
 mod Listing
 pub mod WriteOrder
 pub mod WritesOfRecords

@@ -9,7 +9,8 @@ use Rattle.dt_record.specs.KeyLaws.{KeyBelow-chain, key_below-back}
 use Rattle.dt_record.specs.Writes.{insert_write, by_key}
 use Rattle.dt_versions.specs.History.{are_in_order}
 use Rattle.dt_writes.specs.Apart.{keys_differ, are_apart}
-use Rattle.dt_writes.specs.KeyOrder.{not_below-chain, under, keys_rise}
+use Rattle.dt_writes.specs.KeyOrder.{under, keys_rise}
+use Rattle.dt_writes.proofs.KeyOrder.{not_below-chain}
 
 -- Writes sorted by insertion.
 

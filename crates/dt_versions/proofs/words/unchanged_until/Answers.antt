@@ -37,8 +37,8 @@ returns-clause-passed c = λ i d from to. elim (cases_lt i c.ahead.low) [
   | inr here ↦ (searched c).first i d here to
 ]
 
-pub returns-clause-rest : goal.returns-clause-rest
-returns-clause-rest c = λ i d from to. elim (cases_lt i c.min-high.result) [
+pub returns-clause-end : goal.returns-clause-end
+returns-clause-end c = λ i d from to. elim (cases_lt i c.min-high.result) [
   | inl here ↦ (searched c).last i d from here
   | inr late ↦ changed c i d late to
 ]

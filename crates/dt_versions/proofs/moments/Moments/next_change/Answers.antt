@@ -64,7 +64,7 @@ parts c =
             c.args.k (within c) (bound c) i d (omega (arith, inside c)) (held.0 i 0 (omega arith) early)
         | inr later ↦ passed i d later to
       ],
-      rw (chain_is c, c.deref-3.ensures.value, c.word_place-start.ensures.place) at c.unchanged_until-next.ensures.rest,
+      rw (chain_is c, c.deref-3.ensures.value, c.word_place-start.ensures.place) at c.unchanged_until-next.ensures.end,
     )
 
 pub returns-clause-above : goal.returns-clause-above
