@@ -50,7 +50,8 @@ floor_asked last action = 0
 
 -- the accesses go on by a record
 pub record Follows (old new : Accesses) (key : Key) (body : Body) (sources : Sources) : Type 0 where
-  pub stores : (actions : List Action) → Keeps old.stores actions → IsDrained actions body → Keeps new.stores (actions ++ option_to_list (body_action key body))
+  pub stores : (actions : List Action) → Keeps old.stores actions → IsDrained actions body
+      → Keeps new.stores (actions ++ option_to_list (body_action key body))
   pub keys : (byte : ℕ) → newest_of new.local byte ≡ greater (newest_of old.local byte) (noted_by key body sources byte)
   pub floor : new.floor ≡ max old.floor (floor_asked old.last_read (body_action key body))
   pub last_read : new.last_read ≡ max old.last_read (last_read (option_to_list (body_action key body)))

@@ -105,7 +105,8 @@ pub record IsNotLater (m to : HartMark) : Type 0 where
 -- A law: marks stay live and go on standing for the same, by a record, where another is undone to and where what came
 -- before another is forgotten; and harts that are alike stand for the same.
 pub record MarksGoOn : Type 0 where
-  pub kept : (old new : HartView) (m : HartMark) → KeepsMarks old new → IsLive old m → IsLive new m × AreAlike (stood_at old m) (stood_at new m)
+  pub kept : (old new : HartView) (m : HartMark) → KeepsMarks old new → IsLive old m
+      → IsLive new m × AreAlike (stood_at old m) (stood_at new m)
   pub undone_to : (h : HartView) (to m : HartMark) → IsLive h to → IsLive h m → IsNotLater m to
       → IsLive (stood_at h to) m × AreAlike (stood_at h m) (stood_at (stood_at h to) m)
   pub forgotten_before : (h : HartView) (to m : HartMark) → IsLive h to → IsLive h m → IsNotLater to m

@@ -1,6 +1,7 @@
-use Rattle.std.specs.Prelude.{◌≡◌, None, length, IsTrue}
+use Rattle.std.specs.Prelude.{ℕ, ◌≡◌, None, length, IsTrue}
 use Rattle.std.specs.List.{list_all}
 use Rattle.dt_record.specs.declared.keys.Key.{Key}
+use Rattle.dt_record.specs.declared.origins.Sources.{Sources}
 use Rattle.dt_record.specs.declared.records.Record.{Record}
 use Rattle.dt_record.specs.Actions.{order_floor, last_read}
 use Rattle.dt_record.specs.Keys.{key_below}
@@ -13,7 +14,8 @@ use Rattle.dt_hart.specs.Fences.{fences_of}
 use Rattle.dt_hart.specs.HartView.{HartView}
 use Rattle.dt_hart.specs.OwnWrites.{GoesOn}
 use Rattle.dt_hart.specs.Reserving.{reserved_in}
-use Rattle.dt_hart.specs.Settings.{Setting, arch_of, did, key_in, next_key, last_stamp}
+use Rattle.dt_hart.specs.Settings.{Setting, after, arch_of, did, key_in, next_key, last_stamp}
+use Rattle.dt_hart.specs.Taking.{WasJudged}
 
 -- What is kept of a hart stands for a setting (this project's own): it is what the hart's records before leave, and the
 -- loads among these read at the moments of the least fitting assignment.
@@ -34,6 +36,12 @@ pub record StandsFor (h : HartView) (s : Setting) : Type 0 where
 pub record KnowsAt (h : HartView) (s : Setting) (next : Key) : Type 0 where
   pub knows : Knows (local_memory h.keys None) s.writes (did s) s.moments next
   pub judged : AreJudged s.writes (did s) next
+
+-- The hart goes on by a record with these sources: whatever records it stood for that go on with this one, it stands for
+-- them and the record.
+abbrev pub GoesOnWith : HartView → HartView → Record → Sources → Type 0
+GoesOnWith old new r sources = (s : Setting) (moment : ℕ) → StandsFor old s → GoesOn s r → WasJudged s r moment sources
+    → StandsFor new (after s r moment)
 
 -- A law: what stands for a setting knows what it has to at the key of the next record, since no own write stands
 -- between the least key that this may have and its own.

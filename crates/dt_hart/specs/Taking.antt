@@ -1,12 +1,14 @@
-use Rattle.std.specs.Prelude.{ℕ, ◌≡◌, ◌+◌, ◌<◌, ◌%◌, ◌==◌, ◌&&◌, ◌||◌, Bool, true, false, not, Option, Some, List, length, slice_get, IsTrue}
+use Rattle.std.specs.Prelude.{ℕ, ◌≡◌, ◌+◌, ◌<◌, ◌%◌, ◌==◌, ◌&&◌, ◌||◌, Bool, true, false, not, Option, None, Some, IfSome, option_map, List, length, slice_get, IsTrue}
 use Rattle.dt_record.specs.declared.accesses.LoadAsk.{LoadAsk}
 use Rattle.dt_record.specs.declared.keys.Key.{Key}
 use Rattle.dt_record.specs.declared.origins.Sources.{Sources}
 use Rattle.dt_record.specs.declared.records.Record.{Record}
 use Rattle.dt_record.specs.declared.records.Body.{Body}
-use Rattle.dt_record.specs.declared.records.Body.TheVariants.{Drain}
+use Rattle.dt_record.specs.declared.records.Body.TheVariants.{Commit, Load, Store, Drain}
+use Rattle.dt_record.specs.declared.records.Body.TheVariants as body
 use Rattle.dt_record.specs.declared.writes.Write.{Write}
 use Rattle.dt_record.specs.Actions.{Action, Stored, Fenced, Loaded, Atomic}
+use Rattle.dt_record.specs.Keys.{key_of}
 use Rattle.dt_record.specs.Lawful.{is_in_ram, is_atomic_place}
 use Rattle.dt_record.specs.LoadSources.{origin_of_key, AreLeastSources}
 use Rattle.dt_record.specs.Memory.{source_at, moment_of}
@@ -14,9 +16,13 @@ use Rattle.dt_reference.specs.HartActions.{width_of}
 use Rattle.dt_reference.specs.Meaning.{meaning_of}
 use Rattle.dt_sources.specs.Choice.{then_action, with_moment}
 use Rattle.dt_sources.specs.Finding.{AreSourcesAt, is_load_place}
+use Rattle.dt_step.specs.declared.plans.Planned.{Planned}
+use Rattle.dt_step.specs.declared.state.Arch.{Arch}
+use Rattle.dt_step.specs.Plans.{plan_of}
 use Rattle.dt_stores.specs.declared.answers.DrainAnswer.TheVariants.{Took}
 use Rattle.dt_stores.specs.Draining.{drain_answer}
 use Rattle.dt_stores.specs.Places.{is_store_place, is_store_width}
+use Rattle.dt_hart.specs.declared.found.Findings.{Findings}
 use Rattle.dt_hart.specs.Settings.{Setting, did, does}
 
 -- What is known of a record that is allowed (this project's own).
@@ -42,6 +48,24 @@ abbrev pub is_placed_at : (bits addr : ℕ) → Bool
 is_placed_at bits addr =
     let width = width_of (meaning_of bits) in
     not (is_in_ram addr) || (is_store_width width && (addr % width == 0))
+
+-- the plan of the instruction with these bits in a state
+abbrev pub instruction_plan : Arch → (bits : ℕ) → Option Planned
+instruction_plan a bits = option_map (λ i. plan_of a i bits) (meaning_of bits)
+
+-- the plan of the instruction that a record retires in a state, where it retires one
+abbrev pub retired_plan : Arch → Body → Option Planned
+retired_plan a (Commit retire) = instruction_plan a retire.bits
+retired_plan a (Load retire at paddr) = instruction_plan a retire.bits
+retired_plan a (Store pc bits paddr value) = instruction_plan a bits
+retired_plan a (body.Atomic retire paddr width wrote new) = instruction_plan a retire.bits
+retired_plan a body = None
+
+-- What was found of a record in a state, after so many of its hart's records: its key, and where a plan is told, that of
+-- the instruction that it retires. Of the sources WasJudged says more.
+pub record AreFoundOf (a : Arch) (seq : ℕ) (r : Record) (found : Findings) : Type 0 where
+  pub key : found.key ≡ key_of seq r
+  pub plan : IfSome found.plan (λ plan. retired_plan a r.body ≡ Some plan)
 
 -- a load from RAM read at this moment, in the least fitting assignment of the loads up to it, and its bytes come from
 -- these sources

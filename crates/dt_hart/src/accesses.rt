@@ -1,6 +1,7 @@
 ghost use Rattle.std.specs.Prelude.{◌≡◌, ◌<◌, ℕ, max, if◌then◌else◌, IsFalse, IsTrue, IfSome, OnOk, OnErr, List, [], ◌∷◌, ◌++◌, take};
 ghost use Rattle.std.specs.Option.{option_map_or};
 ghost use Rattle.dt_local.specs.LocalMemory.{newest_of, is_noted, greater};
+ghost use Rattle.dt_record.specs.declared.limits.TheConstants.{RECORD_LIMIT};
 ghost use Rattle.dt_record.specs.Actions.{Action, Drained, Fenced};
 ghost use Rattle.dt_record.specs.Lawful.{IsLawful, is_atomic_place, is_ram_line};
 ghost use Rattle.dt_record.specs.Keys.{key_of};
@@ -17,9 +18,9 @@ ghost use Rattle.dt_hart.specs.Taking.{is_placed, is_access_place, is_fenced};
 
 use crate::atomics::{AtomicOrder, order_of};
 use crate::notes::{note_atomic, note_read};
-use crate::places::{is_in_ram, width_of};
+use crate::places::width_of;
 use dt_local::Local;
-use dt_record::{Body, Key, OwnStore, Record, Sources, Write, write_of};
+use dt_record::{Body, Key, OwnStore, Record, Sources, Write, is_in_ram, write_of};
 use dt_stores::{DrainAnswer, Stores, atomics_keep_stores, drains_stay_below, loads_keep_stores};
 use std::alloc::AllocError;
 
@@ -91,7 +92,7 @@ impl Accesses {
 
     /// Takes a fence that orders writes before writes, writes before reads, and reads before reads.
     pub fn take_fence(&mut self, ww: bool, wr: bool, rr: bool)
-        requires { (self.old.stores.ww < 4194304) × (self.old.stores.wr < 4194304) }
+        requires { (self.old.stores.ww < RECORD_LIMIT) × (self.old.stores.wr < RECORD_LIMIT) }
         ensures stores { GainsAction self.old.stores self.new.stores (Fenced ww wr rr) }
         ensures keys { self.new.local.keys ≡ self.old.local.keys }
         ensures floor { self.new.floor ≡ max self.old.floor (if rr then self.old.last_read else 0) }
@@ -112,7 +113,8 @@ impl Accesses {
     ) -> Result<(), AllocError>
         requires place { IsTrue (is_access_place addr width) }
         ensures stores { self.new.stores ≡ self.old.stores }
-        ensures noted { OnOk result ((byte : ℕ) → newest_of self.new.local byte ≡ greater (newest_of self.old.local byte) (read_key addr (take width sources.from) byte)) }
+        ensures noted { OnOk result ((byte : ℕ) → newest_of self.new.local byte ≡ greater (newest_of self.old.local byte)
+            (read_key addr (take width sources.from) byte)) }
         ensures floor { self.new.floor ≡ self.old.floor }
         ensures last_read { OnOk result (self.new.last_read ≡ max self.old.last_read at) }
         ensures marks { OnOk result (KeepsAccessMarks self.old self.new) }
@@ -136,7 +138,8 @@ impl Accesses {
         requires place { IsTrue (is_atomic_place addr width) }
         requires line { IfSome own (λ w. IsTrue (is_ram_line w.line)) }
         ensures stores { self.new.stores ≡ self.old.stores }
-        ensures noted { OnOk result ((byte : ℕ) → newest_of self.new.local byte ≡ greater (newest_of self.old.local byte) (option_map_or (covering_key byte) own (if order.reads then read_key addr (take width sources.from) byte else None))) }
+        ensures noted { OnOk result ((byte : ℕ) → newest_of self.new.local byte ≡ greater (newest_of self.old.local byte)
+            (option_map_or (covering_key byte) own (if order.reads then read_key addr (take width sources.from) byte else None))) }
         ensures floor { OnOk result (self.new.floor ≡ max self.old.floor (if order.acquires then stamp else 0)) }
         ensures last_read { OnOk result (self.new.last_read ≡ max self.old.last_read (if order.reads then stamp else 0)) }
         ensures marks { OnOk result (KeepsAccessMarks self.old self.new) }
@@ -153,9 +156,12 @@ impl Accesses {
     fn take_drain(&mut self, key: Key, line: u64, mask: u64, count: u16) -> Result<(), AllocError>
         requires line { IsTrue (is_ram_line line) }
         requires below { AreDrainedBelow key self.old.stores.held }
-        ensures stores { OnOk result ((actions : List Action) (taken : ℕ) (bytes : List ℕ) → Keeps self.old.stores actions → drain_answer actions line count ≡ answer.Took taken bytes → Keeps self.new.stores (actions ++ Drained key line count ∷ [])) }
+        ensures stores { OnOk result ((actions : List Action) (taken : ℕ) (bytes : List ℕ) → Keeps self.old.stores actions
+            → drain_answer actions line count ≡ answer.Took taken bytes
+            → Keeps self.new.stores (actions ++ Drained key line count ∷ [])) }
         ensures counted { OnOk result (CountsOn key self.old.stores self.new.stores) }
-        ensures noted { OnOk result ((byte : ℕ) → newest_of self.new.local byte ≡ greater (newest_of self.old.local byte) (if is_noted line mask byte then Some key else None)) }
+        ensures noted { OnOk result ((byte : ℕ) → newest_of self.new.local byte ≡ greater (newest_of self.old.local byte)
+            (if is_noted line mask byte then Some key else None)) }
         ensures floor { self.new.floor ≡ self.old.floor }
         ensures last_read { self.new.last_read ≡ self.old.last_read }
         ensures marks { OnOk result (KeepsAccessMarks self.old self.new) }

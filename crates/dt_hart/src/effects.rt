@@ -1,4 +1,5 @@
 ghost use Rattle.std.specs.Prelude.{◌≡◌, ◌<◌, ◌+◌, ◌↔◌, IsTrue, OnOk, OnErr};
+ghost use Rattle.dt_record.specs.declared.limits.TheConstants.{RECORD_LIMIT};
 ghost use Rattle.dt_record.specs.Keys.{key_of};
 ghost use Rattle.dt_record.specs.Lawful.{IsLawful};
 ghost use Rattle.dt_reference.specs.HartActions.{action_of};
@@ -33,7 +34,7 @@ pub fn take_effects(
     requires lawful { IsLawful event.now }
     requires placed { IsTrue (is_placed (action_of seq event.now)) }
     requires counted { IsCounted accesses.old.stores (key_of seq event.now) }
-    requires room { seq < 4194304 }
+    requires room { seq < RECORD_LIMIT }
     ensures follows { OnOk result (Follows accesses.old accesses.new (key_of seq event.now) event.now.body sources) }
     ensures fences { OnOk result (FollowsFences windows.old windows.new a.now seq event.now) }
     ensures counted { OnOk result (IsCounted accesses.new.stores (key_after (key_of seq event.now))) }

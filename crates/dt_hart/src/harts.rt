@@ -1,21 +1,23 @@
 ghost use Rattle.std.specs.Prelude.{◌≡◌, ℕ, ◌+◌, ◌<◌, ◌≤◌, Bool, List, IsTrue, OnOk, OnErr};
 ghost use Rattle.dt_record.specs.declared.writes.Write.{Write};
+ghost use Rattle.dt_record.specs.declared.limits.TheConstants.{RECORD_LIMIT};
 ghost use Rattle.dt_record.specs.Lawful.{IsLawful};
+ghost use Rattle.dt_record.specs.Lent.{record_of};
 ghost use Rattle.dt_reference.specs.HartActions.{action_of};
 ghost use Rattle.dt_reference.specs.Run.{CanFollow, after_record};
 ghost use Rattle.dt_step.specs.State.{IsArch, IsReachable};
 ghost use Rattle.dt_hart.specs.Marks.{KeepsMarks};
-ghost use Rattle.dt_hart.specs.OwnWrites.{GoesOn};
-ghost use Rattle.dt_hart.specs.Settings.{Setting, at_first, after};
-ghost use Rattle.dt_hart.specs.Standing.{StandsFor};
-ghost use Rattle.dt_hart.specs.Taking.{WasJudged, is_placed};
+ghost use Rattle.dt_hart.specs.Settings.{at_first};
+ghost use Rattle.dt_hart.specs.Standing.{GoesOnWith, StandsFor};
+ghost use Rattle.dt_hart.specs.Taking.{AreFoundOf, is_placed};
 
 use crate::accesses::Accesses;
 use crate::atomics::reserved_by;
 use crate::effects::take_effects;
+use crate::found::Findings;
 use dt_judged::judged_goes_on;
 use dt_local::Local;
-use dt_record::{Key, Record, Sources};
+use dt_record::{Key, Record, RecordAt, Sources, key_of};
 use dt_reference::{actions_go_on, advance, start, state_goes_on};
 use dt_sources::{knowing_goes_on, least_choice_goes_on, least_choice_is_least, notes_are_added};
 use dt_step::Arch;
@@ -59,13 +61,15 @@ impl Model for Hart {
       past = h.accesses.local.past;
     } };
 
-    ghost invariant = { λ h. IsArch h.arch × IsReachable h.arch × IsCounted h.accesses.stores (record { stamp = h.stamp; hart = h.arch.hart; seq = h.seq }) };
+    ghost invariant = { λ h. IsArch h.arch × IsReachable h.arch
+        × IsCounted h.accesses.stores (record { stamp = h.stamp; hart = h.arch.hart; seq = h.seq }) };
 }
 
 impl Hart {
     /// The hart with this number after a reset, in a file that does or does not let harts use Sv48.
     pub fn new(alloc: Global, number: u8, wide: bool) -> Hart
-        ensures stands { (image : List ℕ) (writes : List Write) (moments : ℕ → ℕ) → StandsFor result (at_first image writes number wide moments) }
+        ensures stands { (image : List ℕ) (writes : List Write) (moments : ℕ → ℕ)
+            → StandsFor result (at_first image writes number wide moments) }
         ensures number { result.arch.hart ≡ number }
         ensures first { (result.seq ≡ 0) × (result.stamp ≡ 0) }
     {
@@ -155,10 +159,54 @@ impl Hart {
         requires lawful { IsLawful event.now }
         requires its { event.now.hart ≡ self.old.arch.hart }
         requires in_time { self.old.stamp ≤ event.now.stamp }
-        requires room { self.old.seq < 4194304 }
+        requires room { self.old.seq < RECORD_LIMIT }
         requires follows { CanFollow self.old.arch event.now.body }
         requires placed { IsTrue (is_placed (action_of self.old.seq event.now)) }
-        ensures goes_on { OnOk result ((s : Setting) (moment : ℕ) → StandsFor self.old s → GoesOn s event.now → WasJudged s event.now moment sources → StandsFor self.new (after s event.now moment)) }
+        ensures goes_on { OnOk result (GoesOnWith self.old self.new event.now sources) }
+        ensures arch { OnOk result (self.new.arch ≡ after_record self.old.arch event.now) }
+        ensures number { self.new.arch.hart ≡ self.old.arch.hart }
+        ensures counted { OnOk result (self.new.seq ≡ self.old.seq + 1) }
+        ensures stamp { OnOk result (self.new.stamp ≡ event.now.stamp) }
+        ensures marks { OnOk result (KeepsMarks self.old self.new) }
+        ensures unchanged { OnErr result (self.new ≡ self.old) }
+    {
+        let key = key_of(event, self.seq);
+        let found = Findings {
+            key,
+            plan: None,
+            sources,
+        };
+        self.take_at(&event.lent(), found)
+    }
+
+    /// The same of a record whose long fields are lent, by what was found when it was judged.
+    pub fn take_at(&mut self, event: &RecordAt<'_>, found: Findings) -> Result<(), AllocError>
+        requires lawful { IsLawful (record_of event.now) }
+        requires its { event.now.hart ≡ self.old.arch.hart }
+        requires in_time { self.old.stamp ≤ event.now.stamp }
+        requires room { self.old.seq < RECORD_LIMIT }
+        requires follows { CanFollow self.old.arch (record_of event.now).body }
+        requires placed { IsTrue (is_placed (action_of self.old.seq (record_of event.now))) }
+        requires found { AreFoundOf self.old.arch self.old.seq (record_of event.now) found }
+        ensures goes_on { OnOk result (GoesOnWith self.old self.new (record_of event.now) found.sources) }
+        ensures arch { OnOk result (self.new.arch ≡ after_record self.old.arch (record_of event.now)) }
+        ensures number { self.new.arch.hart ≡ self.old.arch.hart }
+        ensures counted { OnOk result (self.new.seq ≡ self.old.seq + 1) }
+        ensures stamp { OnOk result (self.new.stamp ≡ event.now.stamp) }
+        ensures marks { OnOk result (KeepsMarks self.old self.new) }
+        ensures unchanged { OnErr result (self.new ≡ self.old) }
+    {
+        self.take_record(&event.record(), found.sources)
+    }
+
+    fn take_record(&mut self, event: &Record, sources: Sources) -> Result<(), AllocError>
+        requires lawful { IsLawful event.now }
+        requires its { event.now.hart ≡ self.old.arch.hart }
+        requires in_time { self.old.stamp ≤ event.now.stamp }
+        requires room { self.old.seq < RECORD_LIMIT }
+        requires follows { CanFollow self.old.arch event.now.body }
+        requires placed { IsTrue (is_placed (action_of self.old.seq event.now)) }
+        ensures goes_on { OnOk result (GoesOnWith self.old self.new event.now sources) }
         ensures arch { OnOk result (self.new.arch ≡ after_record self.old.arch event.now) }
         ensures number { self.new.arch.hart ≡ self.old.arch.hart }
         ensures counted { OnOk result (self.new.seq ≡ self.old.seq + 1) }

@@ -6,6 +6,7 @@
 mod accesses;
 mod atomics;
 mod effects;
+mod found;
 mod harts;
 mod laws;
 mod marks;
@@ -14,6 +15,7 @@ mod places;
 #[cfg(test)]
 mod tests;
 
+pub use found::Findings;
 pub use harts::Hart;
 pub use laws::{fences_are_earlier, known_at_next};
 pub use marks::{HartMark, marks_go_on};

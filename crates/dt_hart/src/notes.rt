@@ -25,7 +25,8 @@ pub fn note_atomic(
     requires in_ram { IsTrue (is_in_ram addr) }
     requires on_one_line { addr % 64 + length from.now ≤ 64 }
     requires line { IfSome own (λ w. IsTrue (is_ram_line w.line)) }
-    ensures noted { OnOk result ((byte : ℕ) → newest_of local.new byte ≡ greater (newest_of local.old byte) (option_map_or (covering_key byte) own (if reads then read_key addr from.now byte else None))) }
+    ensures noted { OnOk result ((byte : ℕ) → newest_of local.new byte ≡ greater (newest_of local.old byte)
+        (option_map_or (covering_key byte) own (if reads then read_key addr from.now byte else None))) }
     ensures marks { OnOk result (KeepsMarks (known_in local.old) (known_in local.new)) }
     ensures unchanged { OnErr result (known_in local.new ≡ known_in local.old) }
 {
@@ -39,7 +40,8 @@ pub fn note_atomic(
 /// Notes the same key for each of these bytes of a line.
 fn note_own(local: &mut Local, key: Key, line: u64, mask: u64) -> Result<(), AllocError>
     requires { IsTrue (is_ram_line line) }
-    ensures noted { OnOk result ((byte : ℕ) → newest_of local.new byte ≡ greater (newest_of local.old byte) (if is_noted line mask byte then Some key else None)) }
+    ensures noted { OnOk result ((byte : ℕ) → newest_of local.new byte ≡ greater (newest_of local.old byte)
+        (if is_noted line mask byte then Some key else None)) }
     ensures marks { OnOk result (KeepsMarks (known_in local.old) (known_in local.new)) }
     ensures unchanged { OnErr result (known_in local.new ≡ known_in local.old) }
 {

@@ -1,12 +1,12 @@
 ghost use Rattle.std.specs.Prelude.{◌≡◌, ℕ, IsTrue};
-ghost use Rattle.dt_record.specs.Lawful.{IsLawful, is_instruction, is_in_ram};
+ghost use Rattle.dt_record.specs.Lawful.{IsLawful, is_instruction};
 ghost use Rattle.dt_reference.specs.HartActions.{action_of, width_of};
 ghost use Rattle.dt_reference.specs.Meaning.{meaning_of};
 ghost use Rattle.dt_stores.specs.Places.{is_store_width};
 ghost use Rattle.dt_hart.specs.Taking.{is_placed, is_placed_at};
 
 use dt_decode::Instr;
-use dt_record::{Body, RAM_END, RAM_START, Record};
+use dt_record::{Body, Record, is_in_ram};
 use dt_reference::meaning;
 
 /// Whether the record, where it is a load from RAM, a store to RAM or an atomic, has a width that
@@ -45,11 +45,4 @@ fn is_width(width: u8) -> bool
     ensures { result ≡ is_store_width width }
 {
     width == 1 || width == 2 || width == 4 || width == 8
-}
-
-/// Whether the address is one of RAM.
-pub fn is_in_ram(addr: u64) -> bool
-    ensures { result ≡ is_in_ram addr }
-{
-    RAM_START <= addr && addr < RAM_END
 }

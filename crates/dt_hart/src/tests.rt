@@ -2,7 +2,7 @@ ghost use Rattle.std.specs.Prelude.{OnOk};
 ghost use Rattle.dt_hart.specs.Marks.{KeepsMarks};
 
 use crate::{Hart, is_placed, known_at_next, marks_go_on};
-use dt_record::{Body, Key, Origin, Record, Retire, Sources, lawful};
+use dt_record::{Body, Key, Origin, RECORD_LIMIT, Record, Retire, Sources, lawful};
 use dt_reference::can_follow;
 use std::process::Abort;
 use std::test::Fail;
@@ -86,7 +86,7 @@ fn take(
     };
     assert!(rt; lawful(&event));
     assert!(rt; is_placed(&event));
-    assert!(rt; hart.stamp() <= stamp && hart.seq() < 4_194_304);
+    assert!(rt; hart.stamp() <= stamp && hart.seq() < RECORD_LIMIT);
     assert!(rt; can_follow(hart.arch(), &event));
     hart.take(&event, sources)?;
     Ok(())
@@ -216,7 +216,7 @@ fn take_fence(rt: &impl Abort, hart: &mut Hart, stamp: u64, bits: u32) -> Result
         body: commit(0x8000_0000, bits, 0),
     };
     assert!(rt; lawful(&event) && is_placed(&event));
-    assert!(rt; hart.stamp() <= stamp && hart.seq() < 4_194_304);
+    assert!(rt; hart.stamp() <= stamp && hart.seq() < RECORD_LIMIT);
     assert!(rt; can_follow(hart.arch(), &event));
     hart.take(&event, NONE)?;
     Ok(())

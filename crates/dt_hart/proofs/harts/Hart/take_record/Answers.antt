@@ -9,7 +9,7 @@ use Rattle.dt_hart.specs.Taking.{is_placed}
 use Rattle.dt_hart.proofs.Counted.{counts_later}
 use Rattle.dt_hart.proofs.GoingOn.{Laws, goes_on, kept}
 use Rattle.dt_hart.proofs.SameHart.{hart_stays}
-use Rattle.dt_hart.proofs.harts.Hart.take.Goals as goal
+use Rattle.dt_hart.proofs.harts.Hart.take_record.Goals as goal
 
 pub returns-clause-goes_on : goal.returns-clause-goes_on
 returns-clause-goes_on c = λ s moment stands g known.
