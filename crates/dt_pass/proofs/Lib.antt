@@ -4,4 +4,3 @@ mod Failing
 mod HartRuns
 mod OneCheck
 mod OwnRecords
-mod Underway

@@ -19,7 +19,7 @@ use Rattle.dt_verdict.specs.declared.verdicts.Verdict.TheVariants.{Pass, Fail}
 use Rattle.dt_verdict.specs.Verdict.{verdict_of, IsVerdict}
 use Rattle.dt_tallies.specs.Counting.{counts_of, is_below}
 use Rattle.dt_tallies.specs.Naming.{named_notes}
-use Rattle.dt_pass.specs.Reading.{HasCome}
+use Rattle.dt_reading.specs.Reading.{HasCome}
 
 -- What checking the records of a probe file comes to (this project's own).
 

@@ -1,4 +1,3 @@
 pub mod Checked
 pub mod Laws
-pub mod Reading
 pub mod Running

@@ -7,10 +7,12 @@ ghost use Rattle.dt_verdict.specs.declared.answers.Refusal.TheVariants as refusa
 ghost use Rattle.dt_pass.specs.Checked.{ComesTo, IsCheckOf, IsChecked, limit_of};
 ghost use Rattle.dt_pass.specs.Running.{AreJudgeable};
 ghost use Rattle.dt_tallies.specs.Naming.{named_notes};
-ghost use Rattle.dt_pass.specs.Reading.{AreStreamed, IsRefusedAt, refusal_in};
+ghost use Rattle.dt_reading.specs.Reading.{AreStreamed, IsRefusedAt, refusal_in, with_header};
+ghost use Rattle.dt_reading.specs.Underway.{IsBehindHeader};
 
-use crate::reading::{Listed, read_all};
+use crate::reading::read_behind;
 use crate::running::run_all;
+use dt_reading::read_header;
 use dt_record::{Image, Key, Probes, Record};
 use dt_tallies::{count, named};
 use dt_verdict::{Checked, HartCounts, Noted, Refusal, Tallies, Verdict, least};
@@ -31,29 +33,64 @@ pub fn pass<P: Probes>(alloc: Global, image: &Image, probes: &mut P) -> Result<C
     ensures never_falls { P.faults probes.old ≤ P.faults probes.new }
     ensures same_lent { P.lent probes.new ≡ P.lent probes.old }
 {
-    let stream = read_all(alloc, probes)?;
-    Ok(check(alloc, image, &stream)?)
+    let header = read_header(probes)?;
+    pass_behind(alloc, image, header.harts, header.wide, probes)
+}
+
+/// Checks the records of a stream whose header came, and nothing behind it, as `pass` does.
+pub fn pass_behind<P: Probes>(
+    alloc: Global,
+    image: &Image,
+    harts: u8,
+    wide: bool,
+    probes: &mut P,
+) -> Result<Checked, Refusal>
+    requires { IsBehindHeader harts wide (P.progress probes.old) }
+    ensures checked { let told = with_header harts wide (P.left probes.old) in
+        IfOk result (λ checked. IsCheckOf image.now told (P.progress probes.new) checked) }
+    ensures accepted { let told = with_header harts wide (P.left probes.old) in
+        OnOk result (IfSome told (λ answers. refusal_in answers ≡ None)) }
+    ensures refused { let told = with_header harts wide (P.left probes.old) in
+        IfErr result (λ r. r ≢ refusal.ReadFault → r ≢ refusal.OutOfMemory → IfSome told (λ answers. refusal_in answers ≡ Some r)) }
+    ensures refused_at { IfErr result (λ r. IsRefusedAt (P.progress probes.new) r) }
+    ensures fault { result ≡ Err refusal.ReadFault → Rose (P.faults probes.old) (P.faults probes.new) }
+    ensures never_falls { P.faults probes.old ≤ P.faults probes.new }
+    ensures same_lent { P.lent probes.new ≡ P.lent probes.old }
+{
+    let records = read_behind(alloc, harts, wide, probes)?;
+    Ok(check(alloc, image, harts, wide, &records)?)
 }
 
 /// Checks the records of a stream that came to its end.
-fn check(alloc: Global, image: &Image, stream: &Listed) -> Result<Checked, AllocError>
-    requires streamed { AreStreamed stream.now.harts stream.now.records.items }
-    ensures { IfOk result (λ checked. IsChecked image.now stream.now.wide stream.now.harts stream.now.records.items checked) }
+fn check(
+    alloc: Global,
+    image: &Image,
+    harts: u8,
+    wide: bool,
+    records: &[Record],
+) -> Result<Checked, AllocError>
+    requires streamed { AreStreamed harts records.now }
+    ensures { IfOk result (λ checked. IsChecked image.now wide harts records.now checked) }
 {
-    let m = moments_of(alloc, image.copy()?, &stream.records)?;
-    check_over(alloc, &m, stream)
+    let m = moments_of(alloc, image.copy()?, records)?;
+    check_over(alloc, &m, harts, wide, records)
 }
 
 /// Checks them over the memory of their writes.
-fn check_over(alloc: Global, m: &Moments, stream: &Listed) -> Result<Checked, AllocError>
-    requires streamed { AreStreamed stream.now.harts stream.now.records.items }
-    requires judgeable { AreJudgeable m.now stream.now.records.items }
-    ensures { IfOk result (λ checked. IsChecked m.now.image stream.now.wide stream.now.harts stream.now.records.items checked) }
+fn check_over(
+    alloc: Global,
+    m: &Moments,
+    harts: u8,
+    wide: bool,
+    records: &[Record],
+) -> Result<Checked, AllocError>
+    requires streamed { AreStreamed harts records.now }
+    requires judgeable { AreJudgeable m.now records.now }
+    ensures { IfOk result (λ checked. IsChecked m.now.image wide harts records.now checked) }
 {
-    let records = stream.records.as_slice();
     let mut notes = Vec::new(alloc);
-    let outcomes = run_all(alloc, m, stream.harts, stream.wide, records, &mut notes)?;
-    checked(alloc, stream.harts, records, least(&outcomes), notes)
+    let outcomes = run_all(alloc, m, harts, wide, records, &mut notes)?;
+    checked(alloc, harts, records, least(&outcomes), notes)
 }
 
 /// What the check of a file's records comes to, from the verdict over all harts and from the notes

@@ -10,7 +10,7 @@ use Rattle.dt_record.specs.ProbeFile.{IsProbeFile}
 use Rattle.dt_record.specs.Answers.{Reading, AreAnswers, AreAnswersAfter, after_record}
 use Rattle.dt_verdict.specs.declared.answers.Refusal.{Refusal}
 use Rattle.dt_pass.specs.Laws.{AFileHasACheck}
-use Rattle.dt_pass.specs.Reading.{first_answers, refusal_in}
+use Rattle.dt_reading.specs.Reading.{first_answers, refusal_in}
 use Rattle.dt_report.specs.Report.{report_text}
 use Rattle.dt_words.specs.declared.commands.Task.{Task}
 use Rattle.dt_words.specs.declared.commands.Task.TheVariants.{Pass, Dump, Convert}

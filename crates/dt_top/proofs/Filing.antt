@@ -18,7 +18,7 @@ use Rattle.dt_verdict.specs.declared.answers.Refusal.{Refusal}
 use Rattle.dt_verdict.specs.declared.answers.Refusal.TheVariants as refusal
 use Rattle.dt_words.specs.declared.commands.Task.TheVariants.{Pass, Dump, Convert}
 use Rattle.dt_words.specs.Table.{Asked}
-use Rattle.dt_pass.specs.Reading.{refusal_in}
+use Rattle.dt_reading.specs.Reading.{refusal_in}
 use Rattle.dt_top.specs.Answer.{answer, refusal_status, version_named, EndsAtLimit, EndsMalformed, IsAnswer, IsRefused, StopsWith, WhereTold}
 use Rattle.dt_top.specs.Running.{Ran}
 use Rattle.dt_top.proofs.Tasks.{are_told, not_dump, not_convert, dump_is_not_convert, either, of_bytes, told_is, where_dump, where_convert}

@@ -8,7 +8,7 @@ use Rattle.dt_verdict.specs.declared.answers.Checked.{Checked}
 use Rattle.dt_verdict.specs.declared.answers.Refusal.{Refusal}
 use Rattle.dt_pass.specs.Checked.{IsChecked}
 use Rattle.dt_pass.specs.Laws.{AFileHasOneCheck}
-use Rattle.dt_pass.specs.Reading.{first_answers, refusal_in}
+use Rattle.dt_reading.specs.Reading.{first_answers, refusal_in}
 use Rattle.dt_report.specs.Report.{report_text}
 use Rattle.dt_words.specs.declared.commands.Task.{Task}
 use Rattle.dt_words.specs.declared.commands.Task.TheVariants.{Pass, Dump, Convert}

@@ -20,7 +20,7 @@ use Rattle.dt_record.specs.declared.streams.Next.TheVariants.{End}
 use Rattle.dt_probe_file.specs.Computing.{answers_of}
 use Rattle.dt_probe_file.proofs.Exists.{of_are}
 use Rattle.dt_probe_file.proofs.OneAnswer.{answers_are_one}
-use Rattle.dt_pass.specs.Reading.{first_answers, refusal_in}
+use Rattle.dt_reading.specs.Reading.{first_answers, refusal_in}
 use Rattle.dt_top.specs.declared.replies.Reply.{Reply}
 use Rattle.dt_top.specs.declared.replies.Reply.TheVariants as reply
 use Rattle.dt_top.specs.Answer.{Answer, answer, verdict_status, usage_answer, too_long_answer, image_fault_answer, memory_answer, refusal_answer, refusal_line, refusal_status, AsksFor, IsAnswer, IsRefused, IsReport, IsTooLong, MayWrite, WhereTold}

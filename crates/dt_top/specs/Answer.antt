@@ -14,7 +14,7 @@ use Rattle.dt_verdict.specs.declared.answers.Refusal.TheVariants.{Malformed, Lim
 use Rattle.dt_verdict.specs.declared.verdicts.Verdict.{Verdict}
 use Rattle.dt_verdict.specs.declared.verdicts.Verdict.TheVariants as verdicts
 use Rattle.dt_pass.specs.Checked.{IsChecked}
-use Rattle.dt_pass.specs.Reading.{first_answers, refusal_in}
+use Rattle.dt_reading.specs.Reading.{first_answers, refusal_in}
 use Rattle.dt_report.specs.Report.{report_text}
 use Rattle.dt_words.specs.declared.commands.Task.{Task}
 use Rattle.dt_words.specs.declared.commands.Task.TheVariants.{Pass, Dump, Convert}

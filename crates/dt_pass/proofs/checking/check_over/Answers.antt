@@ -3,7 +3,7 @@ use Rattle.std.specs.Prelude.{IfOk}
 use Rattle.dt_verdict.specs.declared.verdicts.Outcome.{Outcome}
 use Rattle.dt_verdict.specs.Verdict.{verdict_of, IsVerdict}
 use Rattle.dt_tallies.specs.Counting.{is_below}
-use Rattle.dt_pass.specs.Checked.{IsChecked, limit_of, outcome_of}
+use Rattle.dt_pass.specs.Checked.{limit_of, outcome_of}
 use Rattle.dt_pass.proofs.checking.check_over.Goals as goal
 
 -- what follows for the value, if there is one
@@ -14,12 +14,10 @@ if_ok (Err e) follows holds = holds
 pub returns : goal.returns
 returns c =
     let all = c.in_ok-outcomes.ensures in
-    let held = c.args.stream.now in
     let verdict = c.least.result in
-    let records = c.as_slice-records.result.now in
+    let records = c.args.records.now in
     let outcomes : c.deref.result.now ≡ map (outcome_of records) all.runs = c.deref.ensures.value ∙ all.outcomes_are in
-    if_ok c.checked.result (λ checked comes. subst (λ rs. IsChecked c.args.m.now.image held.wide held.harts rs checked) c.as_slice-records.ensures.value
-    (comes c.args.m.now.image held.wide all.runs all.are_runs (record {
+    if_ok c.checked.result (λ checked comes. comes c.args.m.now.image c.args.wide all.runs all.are_runs (record {
       is = c.least.ensures.value ∙ ap verdict_of outcomes;
       least = subst (λ (os : List Outcome). IsVerdict os verdict) outcomes c.least.ensures.least;
-    }) (ap (filter (λ n. is_below (limit_of verdict) n.key)) all.notes_are))) c.checked.ensures
+    }) (ap (filter (λ n. is_below (limit_of verdict) n.key)) all.notes_are)) c.checked.ensures

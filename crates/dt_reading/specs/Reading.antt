@@ -1,4 +1,4 @@
-use Rattle.std.specs.Prelude.{ℕ, ◌≡◌, ◌≤◌, Bool, Option, None, Some, IfSome, List, [], ◌∷◌, ◌++◌, length, map, filter}
+use Rattle.std.specs.Prelude.{ℕ, ◌≡◌, ◌≤◌, Bool, Option, None, Some, IfSome, option_map, List, [], ◌∷◌, ◌++◌, length, map, filter}
 use Rattle.dt_record.specs.declared.records.Record.{Record}
 use Rattle.dt_record.specs.declared.streams.Next.{Next}
 use Rattle.dt_record.specs.declared.streams.Next.TheVariants as next
@@ -30,6 +30,10 @@ pub record HasCome (told : Option (List Next)) (p : Progress) (harts : ℕ) (wid
   pub wide_is : p.wide ≡ wide
   pub ended : p.ended ≡ Some (End (length records))
   pub streamed : AreStreamed harts records
+
+-- what a stream tells in all whose header came before what is left, where it tells
+abbrev pub with_header : (harts : ℕ) (wide : Bool) → Option (List Next) → Option (List Next)
+with_header harts wide left = option_map (λ rest. Header harts wide ∷ rest) left
 
 -- why the records of these answers are not judged: the answer that ended them, where it is not their end
 abbrev pub refusal_in : List Next → Option Refusal

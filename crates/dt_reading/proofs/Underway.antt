@@ -1,5 +1,5 @@
 -- A stream between two of its answers.
-use Rattle.std.proofs.Common.{◌≡◌, ◌∙◌, ◌<◌, ◌≤◌, ◌+◌, ◌-◌, ◌==◌, ◌≢◌, ℕ, Bool, true, false, List, [], ◌∷◌, ◌++◌, Option, Some, None, IsSome, IsSomeAnd, IfSome, is_some, length, cond, map, filter, refl, sym, ap, subst, append_assoc, arith}
+use Rattle.std.proofs.Common.{◌≡◌, ◌∙◌, ◌<◌, ◌≤◌, ◌+◌, ◌==◌, ◌≢◌, ℕ, Bool, true, false, List, [], ◌∷◌, ◌++◌, Option, Some, None, IsSome, IsSomeAnd, IfSome, length, cond, map, filter, refl, sym, ap, subst, append_assoc, arith}
 use Rattle.std.proofs.lemmas.List.{length-append, map-append}
 use Rattle.std.proofs.lemmas.List.Elements.{filter-append}
 use Rattle.dt_record.specs.declared.records.Record.{Record}
@@ -9,52 +9,15 @@ use Rattle.dt_record.specs.ProbeFile.{AreRecords, IsNext, no_stamps, stamped}
 use Rattle.dt_record.specs.Streams.{Progress, IsFresh, TakesHeader, TakesRecord, TakesAnswer, EndsWith}
 use Rattle.dt_record.specs.Writes.{writes_memory}
 use Rattle.dt_verdict.specs.declared.answers.Refusal.{Refusal}
-use Rattle.dt_pass.specs.Reading.{HasCome, first_answers, refusal_in}
-
--- the answers that came
-abbrev pub so_far : Option ℕ → Bool → List Record → List Next
-so_far None wide records = []
-so_far (Some harts) wide records = first_answers harts wide records
-
-abbrev pub stamps_after : (ℕ → ℕ) → List Record → ℕ → ℕ
-stamps_after last [] = last
-stamps_after last (r ∷ rs) = stamps_after (stamped last r) rs
-
--- what a stream has told behind its header
-pub record IsOpened (h harts : ℕ) (wide : Bool) (records : List Record) (p : Progress) : Type 0 where
-  pub harts_are : h ≡ harts
-  pub wide_is : p.wide ≡ wide
-  pub some_hart : 1 ≤ h
-  pub few_harts : h ≤ 8
-  pub each : AreRecords h no_stamps records
-  pub stamps : (hart : ℕ) → p.stamps hart ≡ stamps_after no_stamps records hart
-  pub events : length records ≡ p.events
-  pub few_events : p.events ≤ 4_194_304
-  pub writes : length (filter writes_memory records) ≡ p.writes
-  pub few_writes : p.writes ≤ 1_048_576
-
--- these answers came of some, and these are left
-pub record HasGiven (answers : List Next) (left : Option (List Next)) (given : List Next) : Type 0 where
-  pub rest : List Next
-  pub left_is : left ≡ Some rest
-  pub answers_are : answers ≡ given ++ rest
-
-pub record IsUnderway (told left : Option (List Next)) (harts : ℕ) (wide : Bool) (records : List Record) (p : Progress) : Type 0 where
-  pub came : IfSome told (λ answers. HasGiven answers left (so_far p.harts wide records))
-  pub open_still : p.ended ≡ None
-  pub unopened : p.harts ≡ None → records ≡ []
-  pub opened : (h : ℕ) → p.harts ≡ Some h → IsOpened h harts wide records p
-
--- how many more answers may come
-abbrev pub remaining : Progress → ℕ
-remaining p = cond (is_some p.harts) (4_194_305 - p.events) 4_194_306
+use Rattle.dt_reading.specs.Reading.{HasCome, first_answers, refusal_in, with_header}
+use Rattle.dt_reading.specs.Underway.{HasGiven, HaveBegun, IsBehindHeader, IsOpened, IsUnderway, remaining, so_far, stamps_after}
 
 -- what is told of the answers, changed
-told_map : (told : Option (List Next)) (P Q : List Next → Type 0) → IfSome told P → ((answers : List Next) → P answers → Q answers) → IfSome told Q
+pub told_map : (told : Option (List Next)) (P Q : List Next → Type 0) → IfSome told P → ((answers : List Next) → P answers → Q answers) → IfSome told Q
 told_map None P Q h go = tt
 told_map (Some answers) P Q h go = go answers h
 
-some_and : {A : Type 0} (o : Option A) (P : A → Type 0) → IsSomeAnd o P → (x : A) × (o ≡ Some x) × P x
+pub some_and : {A : Type 0} (o : Option A) (P : A → Type 0) → IsSomeAnd o P → (x : A) × (o ≡ Some x) × P x
 some_and None P h = absurd h
 some_and (Some x) P h = (x, refl, h)
 
@@ -74,6 +37,34 @@ starts told harts wide p fresh = record {
   open_still = fresh.open_still;
   unopened = λ _. refl;
   opened = λ h is. let bad : None ≡ Some h = sym fresh.no_header ∙ is in cc;
+}
+
+-- behind the header: it came, and no record
+come_behind : (harts : ℕ) (wide : Bool) (left : Option (List Next)) (o : Option ℕ) → o ≡ Some harts
+    → IfSome (with_header harts wide left) (λ answers. HasGiven answers left (so_far o wide []))
+come_behind harts wide None o is = tt
+come_behind harts wide (Some rest) o is = record { rest = rest; left_is = refl; answers_are = ap (λ z. so_far z wide [] ++ rest) (sym is) }
+
+pub starts_behind : (harts : ℕ) (wide : Bool) (left : Option (List Next)) (p : Progress) → IsBehindHeader harts wide p
+    → IsUnderway (with_header harts wide left) left harts wide [] p
+starts_behind harts wide left p b = record {
+  came = come_behind harts wide left p.harts b.harts_are;
+  open_still = b.open_still;
+  unopened = λ _. refl;
+  opened = λ h is.
+      let same : Some h ≡ Some harts = sym is ∙ b.harts_are in
+      let e : h ≡ harts = cc in record {
+        harts_are = e;
+        wide_is = b.wide_is;
+        some_hart = omega (arith, e, b.some_hart);
+        few_harts = omega (arith, e, b.few_harts);
+        each = tt;
+        stamps = b.no_stamps;
+        events = sym b.no_events;
+        few_events = omega (arith, b.no_events);
+        writes = sym b.no_writes;
+        few_writes = omega (arith, b.no_writes);
+      };
 }
 
 -- ---- an answer
@@ -211,6 +202,14 @@ fewer_after_record old new r t =
     let new_some : new.harts ≡ Some next.0 = t.harts_stay ∙ next.1 in
     rw (next.1, new_some) (omega (arith, t.one_event, t.few_events))
 
+-- the record's hart is one of the stream's
+pub record_hart : (told left : Option (List Next)) (harts : ℕ) (wide : Bool) (records : List Record) (old new : Progress) (r : Record)
+    → IsUnderway told left harts wide records old → TakesRecord old r new → (r.hart < harts) × (harts ≤ 8)
+record_hart told left harts wide records old new r u t =
+    let next = some_and old.harts _ t.next in
+    let o = u.opened next.0 next.1 in
+    (omega (arith, o.harts_are, next.2.hart), omega (arith, o.harts_are, o.few_harts))
+
 -- ---- the last answer
 
 ends : (told left after : Option (List Next)) (given next : List Next) (answer : Next) → TakesAnswer left answer after → answer ≢ ReadFault → answer ≢ OutOfMemory
@@ -269,3 +268,22 @@ pub accepted : (told : Option (List Next)) (p : Progress) (harts : ℕ) (wide : 
 accepted told p harts wide records came =
     told_map told (λ answers. (more : List Next) × (answers ≡ first_answers harts wide records ++ End (length records) ∷ more)) (λ answers. refusal_in answers ≡ None) came.answers
     (λ answers h. ap refusal_in h.1 ∙ refusal-events records (End (length records) ∷ h.0))
+
+-- ---- what came so far
+
+pub has_begun : (told left : Option (List Next)) (harts : ℕ) (wide : Bool) (records : List Record) (p : Progress) → p.harts ≡ Some harts
+    → IsUnderway told left harts wide records p → HaveBegun told harts wide records
+has_begun told left harts wide records p headed u = record {
+  answers = told_map told (λ answers. HasGiven answers left (so_far p.harts wide records)) (λ answers. (more : List Next) × (answers ≡ first_answers harts wide records ++ more)) u.came
+      (λ answers h. (h.rest, h.answers_are ∙ ap (λ (o : Option ℕ). so_far o wide records ++ h.rest) headed));
+  each = (u.opened harts headed).each;
+}
+
+pub come_has_begun : (told : Option (List Next)) (p : Progress) (harts : ℕ) (wide : Bool) (records : List Record) → HasCome told p harts wide records
+    → HaveBegun told harts wide records
+come_has_begun told p harts wide records came = record {
+  answers = told_map told (λ answers. (more : List Next) × (answers ≡ first_answers harts wide records ++ End (length records) ∷ more))
+      (λ answers. (more : List Next) × (answers ≡ first_answers harts wide records ++ more)) came.answers
+      (λ answers h. (End (length records) ∷ h.0, h.1));
+  each = came.streamed.each;
+}
