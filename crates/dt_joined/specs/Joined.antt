@@ -37,10 +37,17 @@ pub record AreJoined (harts : ℕ) (file : List Record) (history : List Note) (v
 
 -- the lists of a run that came to its end
 abbrev pub joined_lists : List Record → List Note → Lists
-joined_lists file history = record { fed = file; is_ended = true; taken = λ hart. records_of hart file; queue = λ hart. []; history = history }
+joined_lists file history = record {
+  fed = file;
+  is_ended = true;
+  taken = λ hart. records_of hart file;
+  queue = λ hart. [];
+  history = history;
+}
 
 -- What came of one hart of a file: its run over the records that were judged, which are all of them or end with the failure.
-pub record IsJudgedHart (image : List ℕ) (wide : Bool) (file : List Record) (hart : ℕ) (outcome : Outcome) (notes : List Noted) : Type 0 where
+pub record IsJudgedHart (image : List ℕ) (wide : Bool) (file : List Record) (hart : ℕ)
+    (outcome : Outcome) (notes : List Noted) : Type 0 where
   pub run : RunView
   pub judged : List Record
   pub number : run.hart.arch.hart ≡ hart

@@ -70,6 +70,7 @@ pub record IsConcluded (harts : ℕ) (file : List Record) (outcomes : List Outco
   pub notes_are : checked.tallies.notes ≡ named_notes (limit_of checked.verdict) notes
 
 abbrev pub ConcludedIsChecked : Type 0
-ConcludedIsChecked = (image : List ℕ) (wide : Bool) (harts : ℕ) (file : List Record) (outcomes : List Outcome) (notes : List Noted) (checked : Checked)
+ConcludedIsChecked = (image : List ℕ) (wide : Bool) (harts : ℕ) (file : List Record)
+    (outcomes : List Outcome) (notes : List Noted) (checked : Checked)
     → AreRunsOf (history image (writes_of file)) wide harts file outcomes notes → IsConcluded harts file outcomes notes checked
     → IsChecked image wide harts file checked
