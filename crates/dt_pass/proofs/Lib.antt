@@ -1,5 +1,5 @@
 mod ACheck
-mod AllHarts
+pub mod AllHarts
 mod Failing
 mod HartRuns
 mod OneCheck

@@ -151,8 +151,8 @@ fn counted(
     Ok(HartCounts::of(counts))
 }
 
-/// The key of the failing record, where the verdict has one.
-fn limit_of(verdict: &Verdict) -> Option<Key>
+/// The key of the failing record, where the verdict has one: below it records are counted and named.
+pub fn limit_of(verdict: &Verdict) -> Option<Key>
     ensures { result ≡ limit_of verdict.now }
 {
     match verdict {

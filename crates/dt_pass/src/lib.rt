@@ -9,5 +9,5 @@ mod running;
 #[cfg(test)]
 mod tests;
 
-pub use checking::{checked, pass, pass_behind};
+pub use checking::{checked, limit_of, pass, pass_behind};
 pub use laws::{a_file_has_a_check, a_file_has_one_check, fail_is_first, pass_is_all_allowed};
