@@ -113,7 +113,9 @@ still_filled-drained kept actions key line count stands enough on =
     elim (cases_Bool (on == line)) [
       | inl same ↦
           let here : on ≡ line = eqb-true on line same in
-          let waits : length (filter (is_waiting_on line) (held_of actions)) + (0 - counted (drains_on line actions)) ≡ 0 + length (filter (is_on line) (stores_of actions)) - counted (drains_on line actions) = waiting_from actions line [] 0 0 actions in
+          let waits : length (filter (is_waiting_on line) (held_of actions)) + (0 - counted (drains_on line actions)) ≡ 0 + length (filter (is_on line) (stores_of actions)) - counted (drains_on line actions) =
+          ap (λ (l : List Held). length (filter (is_waiting_on line) l) + (0 - counted (drains_on line actions))) (held-is_from actions)
+          ∙ waiting_from actions line [] 0 0 actions in
           let drains : counted (drains_on line (actions ++ Drained key line count ∷ [])) ≡ counted (drains_on line actions) + (count + 0) = ap counted (more_drains actions line key count) ∙ counted-append (drains_on line actions) ((key, count) ∷ []) in
           let at_line : counted (drains_on line actions) ≤ length (filter (is_on line) (stores_of actions)) = stands.filled line in
           let more_here : length (filter (is_on line) (stores_of actions)) ≤ length (filter (is_on line) (stores_of (actions ++ Drained key line count ∷ []))) = more_stores line actions (Drained key line count ∷ []) in
