@@ -13,7 +13,7 @@ use Rattle.std.proofs.lemmas.Option.{same_Some}
 use Rattle.dt_record.specs.declared.keys.Key.{Key}
 use Rattle.dt_record.specs.declared.writes.Write.{Write}
 use Rattle.dt_record.specs.Actions.{Action, Atomic}
-use Rattle.dt_record.specs.KeyLaws.{KeyBelow-chain}
+use Rattle.dt_record.proofs.KeyLaws.{KeyBelow-chain}
 use Rattle.dt_record.specs.Keys.{KeyBelow, key_below}
 use Rattle.dt_record.specs.Lawful.{is_atomic_place, is_in_ram}
 use Rattle.dt_record.specs.LoadSources.{is_within, origin_at, origin_of_key}

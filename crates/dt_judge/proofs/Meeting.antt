@@ -12,7 +12,7 @@ use Rattle.dt_record.specs.declared.writes.Write.{Write}
 use Rattle.dt_record.specs.Actions.{Action, Stored, Drained, Fenced, Loaded, Atomic}
 use Rattle.dt_record.specs.declared.keys.Key.{Key}
 use Rattle.dt_record.specs.Keys.{KeyBelow, key_below, key_of}
-use Rattle.dt_record.specs.KeyLaws.{KeyBelow-stamps}
+use Rattle.dt_record.proofs.KeyLaws.{KeyBelow-stamps}
 use Rattle.dt_record.specs.Lawful.{is_lawful}
 use Rattle.dt_record.specs.LoadSources.{origin_of_key}
 use Rattle.dt_hart.specs.Fences.{fences_of}

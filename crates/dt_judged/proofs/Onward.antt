@@ -13,7 +13,8 @@ use Rattle.dt_record.specs.declared.writes.Write.{Write}
 use Rattle.dt_record.specs.declared.accesses.OwnStore.{OwnStore}
 use Rattle.dt_record.specs.Keys.{key_below, KeyBelow}
 use Rattle.dt_record.specs.Memory.{line_of}
-use Rattle.dt_record.specs.Actions.{Action, Stored, Drained, Fenced, Loaded, Atomic, Held, held_of, held_from, raised, store_covers, ww_fences, wr_fences}
+use Rattle.dt_record.specs.Actions.{Action, Stored, Drained, Fenced, Loaded, Atomic, Held, held_of, raised, store_covers, ww_fences, wr_fences}
+use Rattle.dt_record.proofs.Holding.{held_from, held-is_from}
 use Rattle.dt_stores.specs.Kept.{Kept}
 use Rattle.dt_stores.specs.Standing.{StandsFor, stores_of}
 use Rattle.dt_stores.specs.Draining.{is_waiting_on, drained_by}
@@ -166,7 +167,8 @@ drained_goes_on laws covers_stores kept writes actions line count next after sta
         let place = passing_place (is_waiting_on line) (take takes.end (held_of actions)) i g there waits in
         let among : slice_get (taken_by actions line count) place.0 ≡ Some g = ap (λ l. slice_get l place.0) (first_are_taken line count takes.end (held_of actions) takes.enough) ∙ place.1 in
         wrote_by covers_stores writes actions line count next after place.0 g byte onward later allowed among
-        (placed_there actions [] 0 0 actions i g judged.placed (front_get takes.end (held_of actions) i g there)) covering
+        (placed_there actions [] 0 0 actions i g judged.placed
+        (ap (λ l. slice_get l i) (sym (held-is_from actions)) ∙ front_get takes.end (held_of actions) i g there)) covering
 
     by_cases : (i : ℕ) (h : Held) (key : Key) (byte : ℕ) → IsMapped (drained_by line next) (take takes.end (held_of actions)) i h
         → h.drained ≡ Some key → IsTrue (store_covers byte h.store) → WroteBefore writes after byte key

@@ -2,7 +2,7 @@ use Rattle.std.proofs.Common.{◌≡◌, ◌&&◌, Bool, true, false, not, if◌
 use Rattle.std.proofs.lemmas.Bool.{false≢true}
 use Rattle.dt_record.specs.declared.keys.Key.{Key}
 use Rattle.dt_record.specs.Keys.{key_below, KeyBelow}
-use Rattle.dt_record.specs.KeyLaws.{KeyBelow-chain, key_below-cases}
+use Rattle.dt_record.proofs.KeyLaws.{KeyBelow-chain, key_below-cases}
 use Rattle.dt_local.specs.LocalMemory.{GreaterBoundsBoth}
 
 pick : (below x y : Bool) → (below ≡ true → x ≡ true → y ≡ true) → (below ≡ false → y ≡ true → x ≡ true)

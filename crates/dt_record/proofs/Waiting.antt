@@ -1,12 +1,13 @@
 -- Stores that no drain takes after a cycle.
-use Rattle.std.proofs.Common.{◌≡◌, ℕ, ◌+◌, ◌-◌, ◌≤◌, ◌==◌, Bool, true, if◌then◌else◌, Option, None, Some, List, [], ◌∷◌, ◌++◌, length, filter, inl, inr, refl, ap, ◌∙◌}
+use Rattle.std.proofs.Common.{◌≡◌, ℕ, ◌+◌, ◌-◌, ◌≤◌, ◌==◌, Bool, true, if◌then◌else◌, Option, None, Some, List, [], ◌∷◌, ◌++◌, length, filter, inl, inr, refl, ap, sym, ◌∙◌}
 use Rattle.std.specs.Prelude.{nat_lt, nat_le, is_none}
 use Rattle.std.specs.Option.{option_map_or}
 use Rattle.std.proofs.lemmas.Bool.{cases_Bool, le-ltb}
 use Rattle.dt_record.specs.declared.keys.Key.{Key}
 use Rattle.dt_record.specs.declared.accesses.OwnStore.{OwnStore}
 use Rattle.dt_record.specs.Memory.{line_of}
-use Rattle.dt_record.specs.Actions.{Action, Stored, Drained, Fenced, Loaded, Atomic, Held, held_from, raised, taker, drains_on, is_on, is_undrained, is_waiting, AreDrainsBy, UndrainedWait}
+use Rattle.dt_record.specs.Actions.{Action, Stored, Drained, Fenced, Loaded, Atomic, Held, raised, taker, drains_on, is_on, is_undrained, is_waiting, AreDrainsBy, UndrainedWait}
+use Rattle.dt_record.proofs.Holding.{held_from, held-is_from}
 
 -- each drain of a line is by this cycle
 abbrev AreBy : ℕ → List (Key × ℕ) → Type 0
@@ -57,4 +58,5 @@ wait_from at all by seen ww wr (Loaded ask ∷ rest) = wait_from at all by seen 
 wait_from at all by seen ww wr (Atomic key addr width reads acquires ∷ rest) = wait_from at all by seen ww wr rest
 
 pub undrained-wait : UndrainedWait
-undrained-wait at actions by = wait_from at actions by [] 0 0 actions
+undrained-wait at actions by =
+    ap (filter (is_undrained at)) (held-is_from actions) ∙ wait_from at actions by [] 0 0 actions ∙ ap (filter is_waiting) (sym (held-is_from actions))

@@ -1,5 +1,6 @@
-use Rattle.std.specs.Prelude.{ℕ, ◌≡◌, ◌≤◌, ◌+◌, ◌-◌, ◌==◌, ◌&&◌, Bool, true, if◌then◌else◌, Option, None, Some, List, [], ◌∷◌, ◌++◌, length, filter, reverse, find, max, nat_lt, nat_le, is_none}
-use Rattle.std.specs.Option.{option_map_or}
+use Rattle.std.specs.Prelude.{ℕ, ◌≡◌, ◌≤◌, ◌+◌, ◌-◌, ◌==◌, ◌&&◌, Bool, true, false, if◌then◌else◌, Option, None, Some, List, [], ◌∷◌, ◌++◌, length, filter, reverse, find, max, take, slice_get, nat_lt, nat_le, is_none}
+use Rattle.std.specs.List.{filter_map, range_with_len}
+use Rattle.std.specs.Option.{option_map_or, option_and_then}
 use Rattle.dt_record.specs.declared.keys.Key.{Key}
 use Rattle.dt_record.specs.declared.accesses.OwnStore.{OwnStore}
 use Rattle.dt_record.specs.declared.accesses.LoadAsk.{LoadAsk}
@@ -47,22 +48,40 @@ is_on line s = line_of s.addr == line
 abbrev pub raised : ℕ → Bool → ℕ
 raised n b = if b then n + 1 else n
 
--- the stores among some actions, after other stores and so many fences, where all is what the hart did
-abbrev pub held_from : List Action → List OwnStore → ℕ → ℕ → List Action → List Held
-held_from all seen ww wr [] = []
-held_from all seen ww wr (Stored s ∷ rest) =
-    record {
-      store = s;
-      barrier = ww;
-      readers = wr;
-      drained = taker (length (filter (is_on (line_of s.addr)) seen) + 1) (drains_on (line_of s.addr) all);
-    } ∷ held_from all (seen ++ s ∷ []) ww wr rest
-held_from all seen ww wr (Fenced fence_ww fence_wr fence_rr ∷ rest) = held_from all seen (raised ww fence_ww) (raised wr fence_wr) rest
-held_from all seen ww wr (_ ∷ rest) = held_from all seen ww wr rest
+-- how many write-before-write fences, and how many write-before-read fences, there were
+abbrev pub ww_fences : List Action → ℕ
+ww_fences [] = 0
+ww_fences (Fenced ww wr rr ∷ rest) = raised (ww_fences rest) ww
+ww_fences (_ ∷ rest) = ww_fences rest
+
+abbrev pub wr_fences : List Action → ℕ
+wr_fences [] = 0
+wr_fences (Fenced ww wr rr ∷ rest) = raised (wr_fences rest) wr
+wr_fences (_ ∷ rest) = wr_fences rest
+
+-- whether an action is a store to a line
+abbrev pub is_store_on : ℕ → Action → Bool
+is_store_on line (Stored s) = is_on line s
+is_store_on line _ = false
+
+-- A store with what the actions before it, and all actions, say of it: its barrier number, and the drain that takes the
+-- store of its number on its line.
+abbrev pub store_held : (all before : List Action) → Action → Option Held
+store_held all before (Stored s) = Some (record {
+  store = s;
+  barrier = ww_fences before;
+  readers = wr_fences before;
+  drained = taker (length (filter (is_store_on (line_of s.addr)) before) + 1) (drains_on (line_of s.addr) all);
+})
+store_held all before _ = None
+
+-- the store at a place among a hart's actions, if one stands there
+abbrev pub held_by_place : List Action → ℕ → Option Held
+held_by_place actions place = option_and_then (store_held actions (take place actions)) (slice_get actions place)
 
 -- the stores of a hart, the oldest first
 abbrev pub held_of : List Action → List Held
-held_of actions = held_from actions [] 0 0 actions
+held_of actions = filter_map (held_by_place actions) (range_with_len 0 (length actions))
 
 -- no drain with a stamp of at most this cycle has taken the store
 abbrev pub is_undrained : ℕ → Held → Bool
@@ -84,22 +103,12 @@ AreDrainsBy at (_ ∷ rest) = AreDrainsBy at rest
 
 -- in a cycle that no drain is after, the undrained stores are those that wait
 abbrev pub UndrainedWait : Type 0
-UndrainedWait = (at : ℕ) (actions : List Action) → AreDrainsBy at actions → undrained at actions ≡ filter is_waiting (held_of actions)
+UndrainedWait = (at : ℕ) (actions : List Action) → AreDrainsBy at actions
+    → undrained at actions ≡ filter is_waiting (held_of actions)
 
 -- the youngest store that is undrained in a cycle and covers a byte
 abbrev pub forwarded : ℕ → List Action → ℕ → Option Held
 forwarded at actions addr = find (λ h. store_covers addr h.store) (reverse (undrained at actions))
-
--- how many write-before-write fences, and how many write-before-read fences, there were
-abbrev pub ww_fences : List Action → ℕ
-ww_fences [] = 0
-ww_fences (Fenced ww wr rr ∷ rest) = raised (ww_fences rest) ww
-ww_fences (_ ∷ rest) = ww_fences rest
-
-abbrev pub wr_fences : List Action → ℕ
-wr_fences [] = 0
-wr_fences (Fenced ww wr rr ∷ rest) = raised (wr_fences rest) wr
-wr_fences (_ ∷ rest) = wr_fences rest
 
 -- the greatest cycle in which a load, an LR or an AMO read
 abbrev pub last_read : List Action → ℕ

@@ -1,4 +1,4 @@
-use Rattle.std.specs.Prelude.{ℕ, ◌==◌, ◌&&◌, ◌||◌, Bool, List, filter, nat_lt, IsTrue}
+use Rattle.std.specs.Prelude.{ℕ, ◌≡◌, ◌<◌, ◌≤◌, ◌==◌, ◌&&◌, ◌||◌, ◌⊎◌, Bool, false, List, filter, nat_lt, IsTrue}
 use Rattle.dt_record.specs.declared.keys.Key.{Key}
 use Rattle.dt_record.specs.declared.records.Record.{Record}
 
@@ -17,3 +17,12 @@ key_below a b = nat_lt a.stamp b.stamp
 
 abbrev pub KeyBelow : Key → Key → Type 0
 KeyBelow a b = IsTrue (key_below a b)
+
+-- keys are in a strict total order, in which the cycle decides first
+pub record KeysAreInOrder : Type 0 where
+  pub not_itself : (a : Key) → key_below a a ≡ false
+  pub one_way : (a b : Key) → KeyBelow a b → key_below b a ≡ false
+  pub chain : (a b c : Key) → KeyBelow a b → KeyBelow b c → KeyBelow a c
+  pub total : (a b : Key) → KeyBelow a b ⊎ ((a ≡ b) ⊎ KeyBelow b a)
+  pub stamps : (a b : Key) → KeyBelow a b → a.stamp ≤ b.stamp
+  pub from_stamps : (a b : Key) → a.stamp < b.stamp → KeyBelow a b

@@ -3,7 +3,6 @@ pub mod Answers
 pub mod Blocks
 pub mod Filling
 pub mod Image
-pub mod KeyLaws
 pub mod Keys
 pub mod Kinds
 pub mod Lawful
@@ -19,6 +18,7 @@ pub mod RecordParts
 pub mod Spelling
 pub mod Streams
 pub mod Tags
+pub mod Undoing
 pub mod Versions
 pub mod Visible
 pub mod Worked

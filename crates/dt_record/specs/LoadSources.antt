@@ -64,7 +64,8 @@ rank before (origin.Store seq) = option_map_or (λ h. store_rank h.drained) (fin
 
 -- A load after some actions of its hart may read memory at moment k, where keeps says which ranks
 -- the source of a byte may have.
-pub record FitsLoad (image : List ℕ) (writes : List Write) (before : List Action) (keeps : ℕ → Rank → Type 0) (ask : LoadAsk) (k : ℕ) : Type 0 where
+pub record FitsLoad (image : List ℕ) (writes : List Write) (before : List Action) (keeps : ℕ → Rank → Type 0)
+    (ask : LoadAsk) (k : ℕ) : Type 0 where
   pub visible : IsVisible writes ask.key ask.at k
   pub value : found_value image writes before ask k ask.width ask.addr ≡ ask.raw
   pub floor : (i : ℕ) → i < ask.width → keeps (ask.addr + i) (rank before (origin_of writes before ask k (ask.addr + i)))
@@ -85,7 +86,8 @@ origin_at writes before k _ byte = None
 -- What it gives at other places does not count.
 
 -- no source of the byte that an earlier action had, and no own write before the load, ranks above this one
-pub record KeepsFloor (writes : List Write) (actions : List Action) (moments : ℕ → ℕ) (place : ℕ) (ask : LoadAsk) (byte : ℕ) (own : Rank) : Type 0 where
+pub record KeepsFloor (writes : List Write) (actions : List Action) (moments : ℕ → ℕ) (place : ℕ)
+    (ask : LoadAsk) (byte : ℕ) (own : Rank) : Type 0 where
   pub reads : (m : ℕ) → m < place → IfSome (slice_get actions m) (λ action.
       IfSome (origin_at writes (take m actions) (moments m) action byte) (λ o. rank_below own (rank (take place actions) o) ≡ false))
   pub own_writes : (w : Write) → Contains writes w → w.key.hart ≡ ask.key.hart → KeyBelow w.key ask.key → IsTrue (covers byte w)

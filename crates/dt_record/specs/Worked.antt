@@ -108,9 +108,11 @@ undrained_between = refl
 -- An AMO in cycle 6 that is an acquire: no later load is of an earlier cycle. Where it is none, a fence
 -- of reads behind it asks for the same, and without one nothing is asked.
 abbrev floor_behind : Bool → List Action → ℕ
-floor_behind acquires actions = order_floor (Stored first ∷ Drained (key 5 0 4) line 1 ∷ Atomic (key 6 0 5) line 8 true acquires ∷ actions)
+floor_behind acquires actions =
+    order_floor (Stored first ∷ Drained (key 5 0 4) line 1 ∷ Atomic (key 6 0 5) line 8 true acquires ∷ actions)
 
-pub floors_of_an_amo : floor_behind true [] ∷ floor_behind false [] ∷ floor_behind false (Fenced false false true ∷ []) ∷ [] ≡ 6 ∷ 0 ∷ 6 ∷ []
+pub floors_of_an_amo : floor_behind true [] ∷ floor_behind false [] ∷ floor_behind false (Fenced false false true ∷ []) ∷ []
+    ≡ 6 ∷ 0 ∷ 6 ∷ []
 floors_of_an_amo = refl
 
 -- A word of 7 is stored where the image has the bytes 11 to 88, and the doubleword there is loaded
@@ -132,6 +134,9 @@ pub sources_of_the_double : map (λ place. origin_of [] stored load 0 (line + pl
 sources_of_the_double = refl
 
 -- a store that waits ranks above its drain, and that above the image
-pub ranks : rank stored (origin.Store 2) ∷ rank (stored ++ Drained (key 10 0 5) line 1 ∷ []) (origin.Store 2) ∷ rank stored origin.Image ∷ []
+abbrev drained_in_10 : List Action
+drained_in_10 = stored ++ Drained (key 10 0 5) line 1 ∷ []
+
+pub ranks : rank stored (origin.Store 2) ∷ rank drained_in_10 (origin.Store 2) ∷ rank stored origin.Image ∷ []
     ≡ Highest ∷ At (key 10 0 5) ∷ Lowest ∷ []
 ranks = refl

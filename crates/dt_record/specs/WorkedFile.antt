@@ -11,11 +11,16 @@ abbrev pub one_commit : Record
 one_commit = record { stamp = 1; hart = 0; body = Commit (record { pc = 0x8000_0000; bits = 0x0050_0093; value = 5 }) }
 
 pub file_of_version_1 : header_bytes One 1 false ++ records_bytes One no_stamps (one_commit ∷ []) ++ end_bytes 1
-    ≡ 83 ∷ 77 ∷ 80 ∷ 68 ∷ 73 ∷ 70 ∷ 70 ∷ 0 ∷ 1 ∷ 0 ∷ 1 ∷ 0 ∷ 0 ∷ 0 ∷ 0 ∷ 0 ∷ 1 ∷ 0 ∷ 1 ∷ 0 ∷ 0 ∷ 0 ∷ 0 ∷ 0 ∷ 0 ∷ 0 ∷ 0 ∷ 0 ∷ 0 ∷ 128 ∷ 0 ∷ 0 ∷ 0 ∷ 0 ∷ 147 ∷ 0 ∷ 80 ∷ 0 ∷ 5 ∷ 0 ∷ 0 ∷ 0 ∷ 0 ∷ 0 ∷ 0 ∷ 0 ∷ 255 ∷ 1 ∷ 0 ∷ 0 ∷ 0 ∷ 0 ∷ 0 ∷ 0 ∷ 0 ∷ []
+    ≡ 83 ∷ 77 ∷ 80 ∷ 68 ∷ 73 ∷ 70 ∷ 70 ∷ 0 ∷ 1 ∷ 0 ∷ 1 ∷ 0 ∷ 0 ∷ 0 ∷ 0 ∷ 0
+    ∷ 1 ∷ 0 ∷ 1 ∷ 0 ∷ 0 ∷ 0 ∷ 0 ∷ 0 ∷ 0 ∷ 0 ∷ 0 ∷ 0 ∷ 0 ∷ 128 ∷ 0 ∷ 0
+    ∷ 0 ∷ 0 ∷ 147 ∷ 0 ∷ 80 ∷ 0 ∷ 5 ∷ 0 ∷ 0 ∷ 0 ∷ 0 ∷ 0 ∷ 0 ∷ 0 ∷ 255 ∷ 1
+    ∷ 0 ∷ 0 ∷ 0 ∷ 0 ∷ 0 ∷ 0 ∷ 0 ∷ []
 unfolding header_bytes half word double wide_bytes end_bytes
 file_of_version_1 = refl
 
 pub file_of_version_2 : header_bytes Two 1 false ++ records_bytes Two no_stamps (one_commit ∷ []) ++ end_bytes 1
-    ≡ 83 ∷ 77 ∷ 80 ∷ 68 ∷ 73 ∷ 70 ∷ 70 ∷ 0 ∷ 2 ∷ 0 ∷ 1 ∷ 0 ∷ 0 ∷ 0 ∷ 0 ∷ 0 ∷ 1 ∷ 0 ∷ 1 ∷ 7 ∷ 128 ∷ 128 ∷ 128 ∷ 128 ∷ 8 ∷ 147 ∷ 129 ∷ 192 ∷ 2 ∷ 5 ∷ 255 ∷ 1 ∷ 0 ∷ 0 ∷ 0 ∷ 0 ∷ 0 ∷ 0 ∷ 0 ∷ []
+    ≡ 83 ∷ 77 ∷ 80 ∷ 68 ∷ 73 ∷ 70 ∷ 70 ∷ 0 ∷ 2 ∷ 0 ∷ 1 ∷ 0 ∷ 0 ∷ 0 ∷ 0 ∷ 0
+    ∷ 1 ∷ 0 ∷ 1 ∷ 7 ∷ 128 ∷ 128 ∷ 128 ∷ 128 ∷ 8 ∷ 147 ∷ 129 ∷ 192 ∷ 2 ∷ 5 ∷ 255 ∷ 1
+    ∷ 0 ∷ 0 ∷ 0 ∷ 0 ∷ 0 ∷ 0 ∷ 0 ∷ []
 unfolding header_bytes half word double varint short_bytes end_bytes
 file_of_version_2 = refl

@@ -24,11 +24,19 @@ width_mask place width = (2 ^ width - 1) * 2 ^ place
 abbrev pub line_with : ℕ → ℕ → ℕ → List ℕ
 line_with place width value = replicate place 0 ++ take width (double value) ++ replicate (64 - (place + width)) 0
 
+-- the write of an atomic that writes memory
+abbrev pub write_of_atomic : Key → (paddr width new : ℕ) → Write
+write_of_atomic key paddr width new = record {
+  key = key;
+  line = paddr - paddr % 64;
+  mask = width_mask (paddr % 64) width;
+  bytes = line_with (paddr % 64) width new;
+}
+
 -- the write that the body of a record with this key makes
 abbrev pub body_write : Key → Body → Option Write
 body_write key (Drain line mask count bytes) = Some (record { key = key; line = line; mask = mask; bytes = bytes })
-body_write key (Atomic retire paddr width wrote new) =
-    if wrote then Some (record { key = key; line = paddr - paddr % 64; mask = width_mask (paddr % 64) width; bytes = line_with (paddr % 64) width new }) else None
+body_write key (Atomic retire paddr width wrote new) = if wrote then Some (write_of_atomic key paddr width new) else None
 body_write key _ = None
 
 -- the write of the record with this number among its hart's records

@@ -1,5 +1,6 @@
 ghost use Rattle.dt_record.specs.Actions.{UndrainedWait};
 ghost use Rattle.dt_record.specs.Filling.{AnswersGoOn, RecordsAreCounted, TakenAnswersGoOn, TakenRecordsWereLeft};
+ghost use Rattle.dt_record.specs.Keys.{KeysAreInOrder};
 ghost use Rattle.dt_record.specs.Marks.{JudgedIsPassed, PassedGoesOn};
 
 /// What notes say of a cycle that each hart has passed stays true whatever notes follow.
@@ -28,4 +29,9 @@ pub fn records_are_counted()
 /// In a cycle that no drain is after, the undrained stores are those that wait.
 pub fn undrained_wait()
     ensures { UndrainedWait }
+{}
+
+/// Keys are in a strict total order, in which the cycle decides first.
+pub fn keys_are_in_order()
+    ensures { KeysAreInOrder }
 {}

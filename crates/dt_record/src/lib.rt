@@ -32,7 +32,8 @@ pub use keys::{Key, key_of};
 pub use kinds::{Kind, kind_of};
 pub use lawfulness::{lawful, lawful_at};
 pub use laws::{
-    answers_go_on, judged_is_passed, passed_goes_on, records_are_counted, undrained_wait,
+    answers_go_on, judged_is_passed, keys_are_in_order, passed_goes_on, records_are_counted,
+    undrained_wait,
 };
 pub use lent::{BodyAt, RecordAt, WordsAt};
 pub use limits::{

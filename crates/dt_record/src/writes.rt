@@ -1,7 +1,7 @@
 ghost use Rattle.std.specs.Prelude.{◌≡◌, ℕ, ◌+◌, ◌-◌, ◌*◌, ◌%◌, ◌^◌, ◌≤◌, ◌⊎◌, ◌++◌, IsTrue, length, take, drop};
 ghost use Rattle.dt_record.specs.Lawful.{IsLawful, is_atomic_place};
 ghost use Rattle.dt_record.specs.Lent.{record_of};
-ghost use Rattle.dt_record.specs.Writes.{write_of_record, writes_memory, width_mask, line_with};
+ghost use Rattle.dt_record.specs.Writes.{write_of_record, write_of_atomic, writes_memory, width_mask, line_with};
 
 use crate::keys::Key;
 use crate::lent::{BodyAt, RecordAt, line_of};
@@ -96,7 +96,7 @@ pub fn write_of_at(event: &RecordAt<'_>, seq: u32) -> Option<Write>
 
 fn atomic_write(key: Key, paddr: u64, width: u8, new: u64) -> Write
     requires { IsTrue (is_atomic_place paddr width) }
-    ensures { result ≡ record { key = key; line = paddr - paddr % 64; mask = width_mask (paddr % 64) width; bytes = line_with (paddr % 64) width new } }
+    ensures { result ≡ write_of_atomic key paddr width new }
 {
     let place = paddr % 64;
     Write {

@@ -12,7 +12,7 @@ use Rattle.std.proofs.lemmas.Map.Keys.{sorted_head, sorted_tail}
 use Rattle.dt_record.specs.declared.keys.Key.{Key}
 use Rattle.dt_record.specs.declared.writes.Write.{Write}
 use Rattle.dt_record.specs.Keys.{key_below}
-use Rattle.dt_record.specs.KeyLaws.{key_below-itself, key_below-cases}
+use Rattle.dt_record.proofs.KeyLaws.{key_below-itself, key_below-cases}
 use Rattle.dt_record.specs.Writes.{insert_write}
 use Rattle.dt_record.specs.contracts.keys.KeyOrd.TheImpl.{ghosts}
 use Rattle.dt_versions.specs.History.{are_in_order}

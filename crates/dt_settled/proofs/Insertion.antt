@@ -4,7 +4,7 @@ use Rattle.std.proofs.lemmas.Bool.{and_parts, and_from, cases_Bool, cond-true, c
 use Rattle.dt_record.specs.declared.keys.Key.{Key}
 use Rattle.dt_record.specs.declared.writes.Write.{Write}
 use Rattle.dt_record.specs.Keys.{key_below}
-use Rattle.dt_record.specs.KeyLaws.{key_below-itself, key_below-back, KeyBelow-chain, key_below-cases}
+use Rattle.dt_record.proofs.KeyLaws.{key_below-itself, key_below-back, KeyBelow-chain, key_below-cases}
 use Rattle.dt_record.specs.Writes.{insert_write, by_key}
 use Rattle.dt_versions.specs.History.{are_in_order}
 use Rattle.dt_writes.specs.Apart.{keys_differ}

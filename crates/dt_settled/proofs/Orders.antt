@@ -7,7 +7,7 @@ use Rattle.std.proofs.lemmas.List.Sums.{AllPass-from_list_all, list_all-from_All
 use Rattle.dt_record.specs.declared.keys.Key.{Key}
 use Rattle.dt_record.specs.declared.writes.Write.{Write}
 use Rattle.dt_record.specs.Keys.{key_below}
-use Rattle.dt_record.specs.KeyLaws.{KeyBelow-stamps}
+use Rattle.dt_record.proofs.KeyLaws.{KeyBelow-stamps}
 use Rattle.dt_record.specs.Lawful.{is_ram_line}
 use Rattle.dt_versions.specs.History.{history, are_in_order, IsKept, CanAdd}
 use Rattle.dt_core.specs.Machine.{usable_below}

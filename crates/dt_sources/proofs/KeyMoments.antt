@@ -11,7 +11,7 @@ use Rattle.dt_record.specs.declared.accesses.LoadAsk.{LoadAsk}
 use Rattle.dt_record.specs.declared.origins.Origin.TheVariants as origin
 use Rattle.dt_record.specs.Actions.{Action, Stored, Drained, Fenced, Loaded, Atomic, Held, held_of, is_undrained, store_covers, forwarded}
 use Rattle.dt_record.specs.Keys.{KeyBelow}
-use Rattle.dt_record.specs.KeyLaws.{KeyBelow-stamps}
+use Rattle.dt_record.proofs.KeyLaws.{KeyBelow-stamps}
 use Rattle.dt_record.specs.LoadSources.{FitsLoad, KeepsFloor, Rank, Lowest, At, Highest, is_within, origin_at, origin_of, origin_of_key, rank, rank_below, store_rank}
 use Rattle.dt_record.specs.Memory.{covers, moment_of, source_at}
 use Rattle.dt_record.specs.Visible.{IsVisible}

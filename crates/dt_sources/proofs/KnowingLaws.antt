@@ -10,7 +10,7 @@ use Rattle.dt_record.specs.declared.origins.Origin.{Origin}
 use Rattle.dt_record.specs.declared.origins.Origin.TheVariants as origin
 use Rattle.dt_record.specs.Memory.{covers}
 use Rattle.dt_record.specs.Keys.{key_below, KeyBelow}
-use Rattle.dt_record.specs.KeyLaws.{key_below-itself, key_below-back}
+use Rattle.dt_record.proofs.KeyLaws.{key_below-itself, key_below-back}
 use Rattle.dt_record.specs.Actions.{Action}
 use Rattle.dt_record.specs.LoadSources.{At, rank_below, origin_at}
 use Rattle.dt_versions.specs.Laws.{source_rank}

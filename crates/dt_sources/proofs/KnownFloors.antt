@@ -24,7 +24,7 @@ use Rattle.dt_sources.specs.Knowing.{IsKnownKey, Knows, AreJudged, KnownIsFloor,
 use Rattle.dt_sources.proofs.Fronts.{floor_along, front_is_same, same_back}
 use Rattle.dt_sources.proofs.Ranks.{not_below_image, not_below-chain}
 use Rattle.dt_sources.proofs.Untaken.{untaken_is_forwarded}
-use Rattle.dt_sources.proofs.YoungestStores.{forwarded_last, found_again, held_at, stores_held_from, stores_of-front}
+use Rattle.dt_sources.proofs.YoungestStores.{forwarded_last, found_again, held_at, stores_held, stores_of-front}
 
 -- The newest keys of local memory ask what the floor of a load asks.
 
@@ -76,12 +76,12 @@ still_there actions m at byte seq h apart found is_seq =
     let last = forwarded_last at (take m actions) byte h found in
     let i = length last.before in
     let was : slice_get (stores_of (take m actions)) i ≡ Some h.store =
-    ap (λ l. slice_get l i) (sym (stores_held_from (take m actions) [] 0 0 (take m actions)))
+    ap (λ l. slice_get l i) (sym (stores_held (take m actions)))
     ∙ slice_get-map (λ (b : Held). b.store) (held_of (take m actions)) i
     ∙ ap (option_map (λ (b : Held). b.store)) (held_at (held_of (take m actions)) h last.before last.after last.split) in
     let is : slice_get (stores_of actions) i ≡ Some h.store = stores_of-front m actions i h.store was in
     let mapped : option_map (λ (b : Held). b.store) (slice_get (held_of actions) i) ≡ Some h.store =
-    sym (slice_get-map (λ (b : Held). b.store) (held_of actions) i) ∙ ap (λ l. slice_get l i) (stores_held_from actions [] 0 0 actions) ∙ is in
+    sym (slice_get-map (λ (b : Held). b.store) (held_of actions) i) ∙ ap (λ l. slice_get l i) (stores_held actions) ∙ is in
     later (slice_get (held_of actions) i) i refl mapped (and_parts (is_undrained at h) (store_covers byte h.store) last.passes).1
   where
     later : (o : Option Held) (i : ℕ) → slice_get (held_of actions) i ≡ o → option_map (λ (b : Held). b.store) o ≡ Some h.store → IsTrue (store_covers byte h.store) → IsStill actions byte seq

@@ -9,12 +9,13 @@ use Rattle.std.proofs.lemmas.Option.{slice_get-map}
 use Rattle.dt_record.specs.declared.keys.Key.{Key}
 use Rattle.dt_record.specs.declared.accesses.OwnStore.{OwnStore}
 use Rattle.dt_record.specs.Memory.{line_of}
-use Rattle.dt_record.specs.Actions.{Action, Stored, Drained, Fenced, Loaded, Atomic, Held, held_from, held_of, raised, taker, drains_on, is_on, is_undrained, store_covers, forwarded}
+use Rattle.dt_record.specs.Actions.{Action, Stored, Drained, Fenced, Loaded, Atomic, Held, held_of, raised, taker, drains_on, is_on, is_undrained, store_covers, forwarded}
+use Rattle.dt_record.proofs.Holding.{held_from, held-is_from}
 use Rattle.dt_stores.specs.Places.{is_store_place, is_store_width}
 use Rattle.dt_stores.specs.Standing.{stores_of}
 use Rattle.dt_record.specs.Lawful.{is_in_ram}
 use Rattle.dt_sources.proofs.Places.{slice_get-append_seam}
-use Rattle.dt_sources.proofs.YoungestStores.{is_forward, forwarded_last, none_forwarded, stores_held_from}
+use Rattle.dt_sources.proofs.YoungestStores.{is_forward, forwarded_last, none_forwarded, stores_held}
 
 -- A store that no drain has taken is forwarded, or a younger one is that no drain has taken either.
 
@@ -129,7 +130,7 @@ untaken_is_forwarded actions at byte i h placed is free covering = parts (forwar
 
     lies : (j : ℕ) (g : Held) → slice_get (held_of actions) j ≡ Some g → store_covers byte g.store ≡ true → line_of g.store.addr ≡ line_of byte
     lies j g g_is covers =
-        let store_is : slice_get (stores_of actions) j ≡ Some g.store = ap (λ l. slice_get l j) (sym (stores_held_from actions [] 0 0 actions)) ∙ slice_get-map (λ (b : Held). b.store) (held_of actions) j ∙ ap (option_map (λ (b : Held). b.store)) g_is in
+        let store_is : slice_get (stores_of actions) j ≡ Some g.store = ap (λ l. slice_get l j) (sym (stores_held actions)) ∙ slice_get-map (λ (b : Held). b.store) (held_of actions) j ∙ ap (option_map (λ (b : Held). b.store)) g_is in
         covering_line g.store byte (list_all-get is_store_place (stores_of actions) j g.store placed store_is) covers
 
     parts : (o : Option Held) → forwarded at actions byte ≡ o → (g : Held) × (forwarded at actions byte ≡ Some g) × (g.drained ≡ None)
@@ -148,7 +149,9 @@ untaken_is_forwarded actions at byte i h placed is free covering = parts (forwar
               let g_covers = (and_parts (is_undrained at g) (store_covers byte g.store) last.passes).1 in (
                 g,
                 found,
-                untaken_after actions [] 0 0 actions i (length last.before) h g early is g_is
+                untaken_after actions [] 0 0 actions i (length last.before) h g early
+                    (ap (λ l. slice_get l i) (sym (held-is_from actions)) ∙ is)
+                    (ap (λ l. slice_get l (length last.before)) (sym (held-is_from actions)) ∙ g_is)
                     (lies i h is covering ∙ sym (lies (length last.before) g g_is g_covers)) free,
               )
         ]

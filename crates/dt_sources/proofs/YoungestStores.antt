@@ -6,7 +6,8 @@ use Rattle.std.proofs.lemmas.List.{reverse-append, take-append-drop}
 use Rattle.std.proofs.lemmas.Option.{slice_get_within}
 use Rattle.std.proofs.lemmas.List.Folds.{find-append}
 use Rattle.dt_record.specs.declared.accesses.OwnStore.{OwnStore}
-use Rattle.dt_record.specs.Actions.{Action, Stored, Drained, Fenced, Loaded, Atomic, Held, held_from, held_of, raised, is_undrained, store_covers, forwarded}
+use Rattle.dt_record.specs.Actions.{Action, Stored, Drained, Fenced, Loaded, Atomic, Held, held_of, raised, is_undrained, store_covers, forwarded}
+use Rattle.dt_record.proofs.Holding.{held_from, held-is_from}
 use Rattle.dt_stores.specs.Standing.{stores_of}
 use Rattle.dt_sources.specs.Finding.{are_apart, StoresAreApart}
 use Rattle.dt_sources.proofs.Places.{slice_get-append_left, slice_get-append_seam}
@@ -74,13 +75,16 @@ forwarded_last at actions addr h found =
     last_found (is_forward at addr) (held_of actions) h (sym (find-reverse-filter (is_undrained at) (λ g. store_covers addr g.store) (held_of actions)) ∙ found)
 
 -- the stores among some actions, with what became of them
-pub stores_held_from : (all : List Action) (seen : List OwnStore) (ww wr : ℕ) (xs : List Action) → map (λ h. h.store) (held_from all seen ww wr xs) ≡ stores_of xs
+stores_held_from : (all : List Action) (seen : List OwnStore) (ww wr : ℕ) (xs : List Action) → map (λ h. h.store) (held_from all seen ww wr xs) ≡ stores_of xs
 stores_held_from all seen ww wr [] = refl
 stores_held_from all seen ww wr (Stored s ∷ xs) = ap (λ l. s ∷ l) (stores_held_from all (seen ++ s ∷ []) ww wr xs)
 stores_held_from all seen ww wr (Drained key line count ∷ xs) = stores_held_from all seen ww wr xs
 stores_held_from all seen ww wr (Fenced fence_ww fence_wr fence_rr ∷ xs) = stores_held_from all seen (raised ww fence_ww) (raised wr fence_wr) xs
 stores_held_from all seen ww wr (Loaded ask ∷ xs) = stores_held_from all seen ww wr xs
 stores_held_from all seen ww wr (Atomic key addr width reads acquires ∷ xs) = stores_held_from all seen ww wr xs
+
+pub stores_held : (actions : List Action) → map (λ h. h.store) (held_of actions) ≡ stores_of actions
+stores_held actions = ap (map (λ (h : Held). h.store)) (held-is_from actions) ∙ stores_held_from actions [] 0 0 actions
 
 all_middle : (p : OwnStore → Bool) (before : List Held) (h : Held) (after : List Held) → list_all p (map (λ g. g.store) (before ++ h ∷ after)) ≡ true → p h.store ≡ true
 all_middle p [] h after all = (and_parts (p h.store) _ all).0
@@ -105,7 +109,7 @@ pub found_again : (actions : List Action) (i : ℕ) (h : Held) → StoresAreApar
 found_again actions i h apart is =
     let parts = split_at (held_of actions) i h is in
     ap (find (λ g. g.store.seq == h.store.seq)) parts.2
-    ∙ found_by_seq parts.0 h parts.1 (ap are_apart (ap (map (λ g. g.store)) (sym parts.2) ∙ stores_held_from actions [] 0 0 actions) ∙ apart)
+    ∙ found_by_seq parts.0 h parts.1 (ap are_apart (ap (map (λ g. g.store)) (sym parts.2) ∙ stores_held actions) ∙ apart)
 
 -- the place of the last one that passes
 pub held_at : (hs : List Held) (h : Held) (before after : List Held) → hs ≡ before ++ h ∷ after → slice_get hs (length before) ≡ Some h

@@ -4,7 +4,8 @@ use Rattle.std.proofs.lemmas.Bool.{lt-leb, le-leb, cases_lt}
 use Rattle.dt_record.specs.declared.keys.Key.{Key}
 use Rattle.dt_record.specs.declared.accesses.OwnStore.{OwnStore}
 use Rattle.dt_record.specs.Memory.{line_of}
-use Rattle.dt_record.specs.Actions.{Action, Stored, Drained, Fenced, Loaded, Atomic, Held, held_from, ww_fences, wr_fences, raised, drains_on, taker, is_on}
+use Rattle.dt_record.specs.Actions.{Action, Stored, Drained, Fenced, Loaded, Atomic, Held, ww_fences, wr_fences, raised, drains_on, taker, is_on}
+use Rattle.dt_record.proofs.Holding.{held_from}
 use Rattle.dt_stores.specs.Standing.{stores_of, counted}
 
 -- What a hart's stores, drains and fences are once an action is added.
@@ -37,33 +38,6 @@ counted-append ((key, count) ∷ xs) ys = omega (arith, counted-append xs ys)
 raised-add : (n m : ℕ) (b : Bool) → raised n b + m ≡ n + raised m b
 raised-add n m true = omega arith
 raised-add n m false = refl
-
--- the fences of two parts add up
-pub ww_fences-append : (xs ys : List Action) → ww_fences (xs ++ ys) ≡ ww_fences xs + ww_fences ys
-ww_fences-append [] ys = omega arith
-ww_fences-append (Fenced ww wr rr ∷ xs) ys =
-    ap (λ n. raised n ww) (ww_fences-append xs ys) ∙ raised-sum (ww_fences xs) (ww_fences ys) ww
-  where
-    raised-sum : (n m : ℕ) (b : Bool) → raised (n + m) b ≡ raised n b + m
-    raised-sum n m true = omega arith
-    raised-sum n m false = refl
-ww_fences-append (Stored s ∷ xs) ys = ww_fences-append xs ys
-ww_fences-append (Drained key on count ∷ xs) ys = ww_fences-append xs ys
-ww_fences-append (Loaded ask ∷ xs) ys = ww_fences-append xs ys
-ww_fences-append (Atomic key addr width reads acquires ∷ xs) ys = ww_fences-append xs ys
-
-pub wr_fences-append : (xs ys : List Action) → wr_fences (xs ++ ys) ≡ wr_fences xs + wr_fences ys
-wr_fences-append [] ys = omega arith
-wr_fences-append (Fenced ww wr rr ∷ xs) ys =
-    ap (λ n. raised n wr) (wr_fences-append xs ys) ∙ raised-sum (wr_fences xs) (wr_fences ys) wr
-  where
-    raised-sum : (n m : ℕ) (b : Bool) → raised (n + m) b ≡ raised n b + m
-    raised-sum n m true = omega arith
-    raised-sum n m false = refl
-wr_fences-append (Stored s ∷ xs) ys = wr_fences-append xs ys
-wr_fences-append (Drained key on count ∷ xs) ys = wr_fences-append xs ys
-wr_fences-append (Loaded ask ∷ xs) ys = wr_fences-append xs ys
-wr_fences-append (Atomic key addr width reads acquires ∷ xs) ys = wr_fences-append xs ys
 
 -- the stores of two parts, one after the other
 pub held_from-append : (all : List Action) (seen : List OwnStore) (ww wr : ℕ) (xs ys : List Action)

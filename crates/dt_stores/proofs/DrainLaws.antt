@@ -5,7 +5,8 @@ use Rattle.std.proofs.lemmas.Bool.{lt-leb, le-leb, lt-ltb, le-ltb, cases_lt, cas
 use Rattle.dt_record.specs.declared.keys.Key.{Key}
 use Rattle.dt_record.specs.declared.accesses.OwnStore.{OwnStore}
 use Rattle.dt_record.specs.Memory.{line_of}
-use Rattle.dt_record.specs.Actions.{Action, Stored, Drained, Fenced, Loaded, Atomic, Held, held_from, raised, drains_on, taker, is_on}
+use Rattle.dt_record.specs.Actions.{Action, Stored, Drained, Fenced, Loaded, Atomic, Held, raised, drains_on, taker, is_on}
+use Rattle.dt_record.proofs.Holding.{held_from}
 use Rattle.dt_stores.specs.Standing.{stores_of, counted}
 use Rattle.dt_stores.specs.Draining.{is_waiting_on, drained_by}
 use Rattle.dt_stores.proofs.ActionLaws.{drains_on-append, taker_past, taker_next, taker_within, taken_within}

@@ -5,16 +5,17 @@ use Rattle.std.proofs.lemmas.List.Elements.{All-cons, All-head, All-tail, All-sa
 use Rattle.dt_record.specs.Keys.{KeyBelow}
 use Rattle.dt_record.specs.declared.keys.Key.{Key}
 use Rattle.dt_record.specs.declared.accesses.OwnStore.{OwnStore}
-use Rattle.dt_record.specs.Actions.{Action, Stored, Drained, Fenced, Loaded, Atomic, Held, held_of, held_from, ww_fences, wr_fences, drains_on}
+use Rattle.dt_record.specs.Actions.{Action, Stored, Drained, Fenced, Loaded, Atomic, Held, held_of, ww_fences, wr_fences, drains_on}
 use Rattle.dt_stores.specs.Kept.{Kept, without_past}
 use Rattle.dt_stores.specs.Standing.{StandsFor, stores_of, counted}
 use Rattle.dt_stores.specs.Draining.{is_waiting_on}
 use Rattle.dt_stores.specs.Plans.{TakesFirst}
 use Rattle.dt_stores.specs.GoingOn.{StoresGoOn, AreDrainedBelow, DrainsStayBelow, is_quiet}
-use Rattle.dt_stores.proofs.ActionLaws.{stores_of-append, held_from-append}
-use Rattle.dt_stores.proofs.DrainLaws.{marked, marked-append, held_from-drained}
+use Rattle.dt_record.proofs.Holding.{held_from}
+use Rattle.dt_stores.proofs.ActionLaws.{stores_of-append}
+use Rattle.dt_stores.proofs.DrainLaws.{marked, marked-append}
 use Rattle.dt_stores.proofs.Marking.{walk}
-use Rattle.dt_stores.proofs.StandingLaws.{held_after, stands_stored, stands_drained}
+use Rattle.dt_stores.proofs.StandingLaws.{held_after, held_drained, stands_stored, stands_drained}
 
 -- What the stores of a hart are after one more action.
 
@@ -106,14 +107,6 @@ marked_below line own key below = walk line own (λ left old new. AreDrainedBelo
     (λ left all. all)
     (λ left h hs ms waits on rest all. All-cons (Below key) (record h { drained = Some own }) ms below (rest (All-tail (Below key) h hs all)))
     (λ left h hs ms out rest all. All-cons (Below key) h ms (All-head (Below key) h hs all) (rest (All-tail (Below key) h hs all)))
-
-held_drained : (actions : List Action) (own : Key) (line count : ℕ) → held_of (actions ++ Drained own line count ∷ []) ≡ marked line own count (held_of actions)
-held_drained actions own line count =
-    let all : count - (0 - counted (drains_on line actions)) ≡ count = omega arith in
-    held_from-append (actions ++ Drained own line count ∷ []) [] 0 0 actions (Drained own line count ∷ [])
-    ∙ append-nil (held_from (actions ++ Drained own line count ∷ []) [] 0 0 actions)
-    ∙ held_from-drained actions line own count [] 0 0 actions
-    ∙ ap (λ k. marked line own k (held_of actions)) all
 
 pub stay_below : DrainsStayBelow
 stay_below kept actions (Stored s) key stands own below =

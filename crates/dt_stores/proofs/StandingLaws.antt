@@ -6,11 +6,12 @@ use Rattle.dt_record.specs.declared.keys.Key.{Key}
 use Rattle.dt_record.specs.declared.accesses.OwnStore.{OwnStore}
 use Rattle.dt_record.specs.declared.accesses.LoadAsk.{LoadAsk}
 use Rattle.dt_record.specs.Memory.{line_of}
-use Rattle.dt_record.specs.Actions.{Action, Stored, Drained, Fenced, Loaded, Atomic, Held, held_from, held_of, ww_fences, wr_fences, raised, drains_on, taker, is_on}
+use Rattle.dt_record.specs.Actions.{Action, Stored, Drained, Fenced, Loaded, Atomic, Held, held_of, ww_fences, wr_fences, raised, drains_on, taker, is_on}
+use Rattle.dt_record.proofs.Holding.{held_from, held-is_from, ww_fences-append, wr_fences-append}
 use Rattle.dt_stores.specs.Kept.{Kept}
 use Rattle.dt_stores.specs.Standing.{StandsFor, stores_of, counted}
 use Rattle.dt_stores.specs.Draining.{is_waiting_on}
-use Rattle.dt_stores.proofs.ActionLaws.{drains_on-append, stores_of-append, counted-append, ww_fences-append, wr_fences-append, held_from-append, held_from-same_drains, taker_past}
+use Rattle.dt_stores.proofs.ActionLaws.{drains_on-append, stores_of-append, counted-append, held_from-append, held_from-same_drains, taker_past}
 use Rattle.dt_stores.proofs.DrainLaws.{marked, held_from-drained, waiting_from, more_drains, same_drains}
 
 -- How what is kept goes on standing for a hart's actions.
@@ -41,9 +42,9 @@ still_filled kept actions action none stands line =
 pub held_after : (actions : List Action) (action : Action) → ((line : ℕ) → drains_on line (action ∷ []) ≡ [])
     → held_of (actions ++ action ∷ []) ≡ held_of actions ++ held_from (actions ++ action ∷ []) (stores_of actions) (0 + ww_fences actions) (0 + wr_fences actions) (action ∷ [])
 held_after actions action none =
-    held_from-append (actions ++ action ∷ []) [] 0 0 actions (action ∷ [])
+    held-is_from (actions ++ action ∷ []) ∙ held_from-append (actions ++ action ∷ []) [] 0 0 actions (action ∷ [])
     ∙ ap (λ l. l ++ held_from (actions ++ action ∷ []) (stores_of actions) (0 + ww_fences actions) (0 + wr_fences actions) (action ∷ []))
-    (held_from-same_drains (actions ++ action ∷ []) actions (undrained_after actions action none) [] 0 0 actions)
+    (held_from-same_drains (actions ++ action ∷ []) actions (undrained_after actions action none) [] 0 0 actions ∙ sym (held-is_from actions))
 
 -- an action that is neither store nor drain
 pub stands_quietly : (old new : Kept) (actions : List Action) (action : Action)
@@ -112,7 +113,9 @@ still_filled-drained kept actions key line count stands enough on =
     elim (cases_Bool (on == line)) [
       | inl same ↦
           let here : on ≡ line = eqb-true on line same in
-          let waits : length (filter (is_waiting_on line) (held_of actions)) + (0 - counted (drains_on line actions)) ≡ 0 + length (filter (is_on line) (stores_of actions)) - counted (drains_on line actions) = waiting_from actions line [] 0 0 actions in
+          let waits : length (filter (is_waiting_on line) (held_of actions)) + (0 - counted (drains_on line actions)) ≡ 0 + length (filter (is_on line) (stores_of actions)) - counted (drains_on line actions) =
+          ap (λ (l : List Held). length (filter (is_waiting_on line) l) + (0 - counted (drains_on line actions))) (held-is_from actions)
+          ∙ waiting_from actions line [] 0 0 actions in
           let drains : counted (drains_on line (actions ++ Drained key line count ∷ [])) ≡ counted (drains_on line actions) + (count + 0) = ap counted (more_drains actions line key count) ∙ counted-append (drains_on line actions) ((key, count) ∷ []) in
           let at_line : counted (drains_on line actions) ≤ length (filter (is_on line) (stores_of actions)) = stands.filled line in
           let more_here : length (filter (is_on line) (stores_of actions)) ≤ length (filter (is_on line) (stores_of (actions ++ Drained key line count ∷ []))) = more_stores line actions (Drained key line count ∷ []) in
@@ -124,19 +127,24 @@ still_filled-drained kept actions key line count stands enough on =
           omega arith
     ]
 
+-- the stores after a drain
+pub held_drained : (actions : List Action) (key : Key) (line count : ℕ) → held_of (actions ++ Drained key line count ∷ []) ≡ marked line key count (held_of actions)
+held_drained actions key line count =
+    let after = actions ++ Drained key line count ∷ [] in
+    let all : count - (0 - counted (drains_on line actions)) ≡ count = omega arith in
+    held-is_from after ∙ held_from-append after [] 0 0 actions (Drained key line count ∷ []) ∙ append-nil (held_from after [] 0 0 actions)
+    ∙ held_from-drained actions line key count [] 0 0 actions ∙ ap (marked line key (count - (0 - counted (drains_on line actions)))) (sym (held-is_from actions))
+    ∙ ap (λ k. marked line key k (held_of actions)) all
+
 pub stands_drained : (old new : Kept) (key : Key) (line count : ℕ) (actions : List Action)
     → new.held ≡ marked line key count old.held → new.ww ≡ old.ww → new.wr ≡ old.wr
     → count ≤ length (filter (is_waiting_on line) old.held)
     → StandsFor old actions → StandsFor new (actions ++ Drained key line count ∷ [])
 stands_drained old new key line count actions held ww wr enough stands =
     let waits : count ≤ length (filter (is_waiting_on line) (held_of actions)) = rw (← stands.held) enough in
-    let all : count - (0 - counted (drains_on line actions)) ≡ count = omega arith in
     record {
       held = held ∙ ap (marked line key count) stands.held
-          ∙ sym (held_from-append (actions ++ Drained key line count ∷ []) [] 0 0 actions (Drained key line count ∷ [])
-          ∙ append-nil (held_from (actions ++ Drained key line count ∷ []) [] 0 0 actions)
-          ∙ held_from-drained actions line key count [] 0 0 actions
-          ∙ ap (λ k. marked line key k (held_of actions)) all);
+          ∙ sym (held_drained actions key line count);
       ww = ww ∙ stands.ww ∙ sym (ww_fences-append actions (Drained key line count ∷ []) ∙ (omega arith));
       wr = wr ∙ stands.wr ∙ sym (wr_fences-append actions (Drained key line count ∷ []) ∙ (omega arith));
       filled = still_filled-drained old actions key line count stands waits;

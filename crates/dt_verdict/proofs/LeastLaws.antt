@@ -8,7 +8,7 @@ use Rattle.std.proofs.lemmas.Bool.Decides.{nat_tests}
 use Rattle.std.proofs.lemmas.List.Folds.{list_all_at}
 use Rattle.dt_record.specs.declared.keys.Key.{Key}
 use Rattle.dt_record.specs.Keys.{key_below, KeyBelow}
-use Rattle.dt_record.specs.KeyLaws.{KeyBelow-chain, key_below-itself, key_below-back}
+use Rattle.dt_record.proofs.KeyLaws.{KeyBelow-chain, key_below-itself, key_below-back}
 use Rattle.dt_verdict.specs.declared.verdicts.Failure.{Failure}
 use Rattle.dt_verdict.specs.declared.verdicts.Outcome.{Outcome}
 use Rattle.dt_verdict.specs.declared.verdicts.Verdict.{Verdict}

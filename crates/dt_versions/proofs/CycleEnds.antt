@@ -6,7 +6,7 @@ use Rattle.std.proofs.lemmas.List.{get_or-drop, get_or-take, length-drop, length
 use Rattle.dt_record.specs.declared.keys.Key.{Key}
 use Rattle.dt_record.specs.declared.writes.Write.{Write}
 use Rattle.dt_record.specs.Keys.{key_below, KeyBelow}
-use Rattle.dt_record.specs.KeyLaws.{KeyBelow-chain, KeyBelow-from_stamps, key_below-back}
+use Rattle.dt_record.proofs.KeyLaws.{KeyBelow-chain, KeyBelow-from_stamps, key_below-back}
 use Rattle.dt_record.specs.Visible.{must_see, cannot_see}
 use Rattle.dt_versions.specs.Cycles.{IsCycle, is_up_to_before, is_up_to_own}
 use Rattle.dt_versions.specs.History.{are_in_order}

@@ -7,7 +7,7 @@ use Rattle.std.proofs.lemmas.List.Sums.{prefix_len-le-length}
 use Rattle.dt_record.specs.declared.keys.Key.{Key}
 use Rattle.dt_record.specs.declared.writes.Write.{Write}
 use Rattle.dt_record.specs.Keys.{key_below, KeyBelow}
-use Rattle.dt_record.specs.KeyLaws.{KeyBelow-chain, KeyBelow-stamps}
+use Rattle.dt_record.proofs.KeyLaws.{KeyBelow-chain, KeyBelow-stamps}
 use Rattle.dt_record.specs.Memory.{is_touched}
 use Rattle.dt_versions.specs.History.{are_in_order}
 use Rattle.dt_versions.proofs.Orders.{KeyBelow-places, no_write}

@@ -10,7 +10,7 @@ use Rattle.std.proofs.lemmas.List.Folds.{list_all-append, list_any-append}
 use Rattle.dt_record.specs.declared.keys.Key.{Key}
 use Rattle.dt_record.specs.declared.writes.Write.{Write}
 use Rattle.dt_record.specs.Keys.{key_below}
-use Rattle.dt_record.specs.KeyLaws.{key_below-back, KeyBelow-stamps, KeyBelow-from_stamps}
+use Rattle.dt_record.proofs.KeyLaws.{key_below-back, KeyBelow-stamps, KeyBelow-from_stamps}
 use Rattle.dt_record.specs.Memory.{moment_of, is_touched}
 use Rattle.dt_record.specs.Visible.{must_see, cannot_see, IsVisible}
 use Rattle.dt_versions.specs.Laws.{AreAlike, LaterWritesDoNotCount}

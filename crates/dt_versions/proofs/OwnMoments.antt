@@ -9,7 +9,7 @@ use Rattle.std.proofs.lemmas.List.Sums.{length-filter, count_by-le-length}
 use Rattle.dt_record.specs.declared.keys.Key.{Key}
 use Rattle.dt_record.specs.declared.writes.Write.{Write}
 use Rattle.dt_record.specs.Keys.{KeyBelow, key_below}
-use Rattle.dt_record.specs.KeyLaws.{KeyBelow-chain, KeyBelow-from_stamps, KeyBelow-stamps, key_below-back}
+use Rattle.dt_record.proofs.KeyLaws.{KeyBelow-chain, KeyBelow-from_stamps, KeyBelow-stamps, key_below-back}
 use Rattle.dt_record.specs.LoadSources.{rank_below}
 use Rattle.dt_record.specs.Memory.{covers, moment_of, source_at}
 use Rattle.dt_record.specs.Visible.{cannot_see, must_see}

@@ -7,7 +7,7 @@ use Rattle.std.proofs.lemmas.List.{take-append-drop, reverse-append}
 use Rattle.std.proofs.lemmas.List.Folds.{find-append}
 use Rattle.dt_record.specs.declared.writes.Write.{Write}
 use Rattle.dt_record.specs.Keys.{key_below}
-use Rattle.dt_record.specs.KeyLaws.{key_below-back, key_below-itself}
+use Rattle.dt_record.proofs.KeyLaws.{key_below-back, key_below-itself}
 use Rattle.dt_record.specs.Memory.{covers, source_at}
 use Rattle.dt_record.specs.LoadSources.{rank_below}
 use Rattle.dt_versions.specs.History.{are_in_order}

@@ -4,7 +4,7 @@ use Rattle.std.proofs.lemmas.List.Sums.{prefix_len-le-length}
 use Rattle.dt_record.specs.declared.keys.Key.{Key}
 use Rattle.dt_record.specs.declared.writes.Write.{Write}
 use Rattle.dt_record.specs.Keys.{key_below, KeyBelow}
-use Rattle.dt_record.specs.KeyLaws.{KeyBelow-chain, KeyBelow-from_stamps, KeyBelow-stamps, key_below-itself, key_below-back}
+use Rattle.dt_record.proofs.KeyLaws.{KeyBelow-chain, KeyBelow-from_stamps, KeyBelow-stamps, key_below-itself, key_below-back}
 use Rattle.dt_record.specs.Visible.{must_see, cannot_see}
 use Rattle.dt_versions.specs.History.{are_in_order}
 use Rattle.dt_versions.specs.Spans.{first_visible, last_visible, AreVisible}

@@ -5,7 +5,7 @@ use Rattle.std.proofs.lemmas.Bool.Decides.{nat_tests}
 use Rattle.dt_record.specs.declared.keys.Key.{Key}
 use Rattle.dt_record.specs.declared.writes.Write.{Write}
 use Rattle.dt_record.specs.Keys.{key_below, KeyBelow}
-use Rattle.dt_record.specs.KeyLaws.{KeyBelow-chain}
+use Rattle.dt_record.proofs.KeyLaws.{KeyBelow-chain}
 use Rattle.dt_record.specs.Visible.{must_see, cannot_see}
 use Rattle.dt_versions.specs.History.{are_in_order}
 use Rattle.dt_versions.specs.Laws.{VisibleIsInterval}

@@ -12,7 +12,7 @@ use Rattle.std.proofs.Math.Path.{fun_ext}
 use Rattle.dt_record.specs.declared.keys.Key.{Key}
 use Rattle.dt_record.specs.Keys.{key_below}
 use Rattle.dt_record.specs.contracts.keys.KeyOrd.TheImpl.{ghosts}
-use Rattle.dt_record.specs.KeyLaws.{key_below-itself, key_below-back}
+use Rattle.dt_record.proofs.KeyLaws.{key_below-itself, key_below-back}
 use Rattle.dt_writes.specs.KeyOrder.{under, keys_rise}
 
 -- Lists whose elements have keys that do not fall. Two of them that hold the same elements at each

@@ -5,7 +5,7 @@ use Rattle.std.proofs.lemmas.Bool.{and_parts, and_from, cases_Bool, cond-true, c
 use Rattle.dt_record.specs.declared.keys.Key.{Key}
 use Rattle.dt_record.specs.declared.writes.Write.{Write}
 use Rattle.dt_record.specs.Keys.{key_below}
-use Rattle.dt_record.specs.KeyLaws.{KeyBelow-chain, key_below-back}
+use Rattle.dt_record.proofs.KeyLaws.{KeyBelow-chain, key_below-back}
 use Rattle.dt_record.specs.Writes.{insert_write, by_key}
 use Rattle.dt_versions.specs.History.{are_in_order}
 use Rattle.dt_writes.specs.Apart.{keys_differ, are_apart}

@@ -10,7 +10,7 @@ use Rattle.dt_record.specs.declared.records.Record.{Record}
 use Rattle.dt_record.specs.declared.records.Body.{Body}
 use Rattle.dt_record.specs.declared.records.Body.TheVariants.{Commit, Trap, Regs, Csrs, Load, Store, Atomic, Drain, Refill, Beat}
 use Rattle.dt_record.specs.Keys.{key_below, key_of, records_of}
-use Rattle.dt_record.specs.KeyLaws.{key_below-cases}
+use Rattle.dt_record.proofs.KeyLaws.{key_below-cases}
 use Rattle.dt_record.specs.Lawful.{Bound, body_bounds, is_atomic_place, is_in_ram, is_ram_line, IsLawful}
 use Rattle.dt_record.specs.ProbeFile.{AreRecords, stamped, no_stamps}
 use Rattle.dt_record.specs.Writes.{body_write, write_of_record, writes_memory, counted, no_records, writes_after, insert_write, by_key, writes_of}

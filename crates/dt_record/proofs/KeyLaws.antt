@@ -2,7 +2,7 @@ use Rattle.std.specs.Prelude.{◌≡◌, ◌<◌, ◌≤◌, ◌⊎◌, false}
 use Rattle.std.proofs.Common.{arith}
 use Rattle.std.proofs.lemmas.Bool.Decides.{nat_tests}
 use Rattle.dt_record.specs.declared.keys.Key.{Key}
-use Rattle.dt_record.specs.Keys.{key_below, KeyBelow}
+use Rattle.dt_record.specs.Keys.{key_below, KeyBelow, KeysAreInOrder}
 
 -- Keys are in a strict total order.
 
@@ -24,3 +24,13 @@ KeyBelow-stamps a b below = grind (arith, nat_tests)
 
 pub KeyBelow-from_stamps : (a b : Key) → a.stamp < b.stamp → KeyBelow a b
 KeyBelow-from_stamps a b earlier = grind (arith, nat_tests)
+
+pub keys-are_in_order : KeysAreInOrder
+keys-are_in_order = record {
+  not_itself = key_below-itself;
+  one_way = key_below-back;
+  chain = KeyBelow-chain;
+  total = key_below-cases;
+  stamps = KeyBelow-stamps;
+  from_stamps = KeyBelow-from_stamps;
+}
