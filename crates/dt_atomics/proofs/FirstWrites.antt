@@ -6,7 +6,7 @@ use Rattle.std.proofs.lemmas.Bool.Decides.{nat_tests}
 use Rattle.std.proofs.lemmas.List.{take-append-le}
 use Rattle.std.proofs.lemmas.List.Elements.{All-contains, Contains-append_cases, Contains-append_left}
 use Rattle.std.proofs.lemmas.List.Sums.{AllPass-from_list_all}
-use Rattle.dt_loads.specs.declared.reading.Passed.{Passed}
+use Rattle.dt_rules.specs.declared.misfits.Passed.{Passed}
 use Rattle.dt_record.specs.declared.keys.Key.{Key}
 use Rattle.dt_record.specs.declared.origins.Origin.{Origin}
 use Rattle.dt_record.specs.declared.origins.Origin.TheVariants as origin

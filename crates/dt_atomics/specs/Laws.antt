@@ -1,6 +1,6 @@
 use Rattle.std.specs.Prelude.{ℕ, ◌≡◌, ◌+◌, ◌<◌, ◌↔◌, Some, List, ◌++◌, Result, Ok, IsTrue, nat_lt, slice_get}
 use Rattle.std.specs.List.{list_all}
-use Rattle.dt_loads.specs.declared.reading.Passed.{Passed}
+use Rattle.dt_rules.specs.declared.misfits.Passed.{Passed}
 use Rattle.dt_record.specs.declared.keys.Key.{Key}
 use Rattle.dt_record.specs.declared.writes.Write.{Write}
 use Rattle.dt_record.specs.Actions.{Action}
@@ -50,4 +50,5 @@ pub record IsExact (g : AtomicGrounds) (key : Key) (x : AtomicAccess) (passed : 
       → slice_get passed.sources.from place ≡ Some (source_of g.writes (moment_of g.writes key) (x.paddr + place))
 
 abbrev pub AllowedAtomicsAreExact : Type 0
-AllowedAtomicsAreExact = (g : AtomicGrounds) (key : Key) (x : AtomicAccess) (passed : Passed) → IsAtomicAnswer g key x (Ok passed) → IsExact g key x passed
+AllowedAtomicsAreExact = (g : AtomicGrounds) (key : Key) (x : AtomicAccess) (passed : Passed)
+    → IsAtomicAnswer g key x (Ok passed) → IsExact g key x passed

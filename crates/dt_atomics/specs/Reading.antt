@@ -24,7 +24,10 @@ source_of writes k addr = origin_of_key (source_at writes k addr)
 abbrev pub sources_of : List Write → ℕ → AtomicAccess → Sources
 sources_of writes k x =
     if reads x.op
-    then record { count = x.width; from = map (source_of writes k) (range_with_len x.paddr x.width) ++ replicate (8 - x.width) origin.Image }
+    then record {
+      count = x.width;
+      from = map (source_of writes k) (range_with_len x.paddr x.width) ++ replicate (8 - x.width) origin.Image;
+    }
     else record { count = 0; from = replicate 8 origin.Image }
 
 -- some byte that an LR or AMO reads comes from a write that is newer than every write known to the hart for that byte

@@ -15,10 +15,9 @@ use crate::accesses::{AtomicAccess, has_failed, is_conditional, line_of};
 use crate::draining::all_drained;
 use crate::reading::{has_newer, number_at, sources};
 use crate::values::{success, value, write};
-use dt_loads::Passed;
 use dt_local::Local;
 use dt_record::{Key, Letters};
-use dt_rules::{Misfit, NO_LETTERS, sc_live};
+use dt_rules::{Misfit, NO_LETTERS, Passed, sc_live};
 use dt_stores::Stores;
 use dt_versions::Moments;
 
@@ -39,7 +38,8 @@ pub fn atomic(
     x: AtomicAccess,
 ) -> Result<Passed, Misfit>
     requires place { IsTrue (is_atomic_place x.paddr x.width) }
-    ensures { (actions : List Action) (moments : ℕ → ℕ) → StandsFor s.now actions → Knows l.now m.now.writes actions moments key → IsAtomicAnswer (atomic_grounds m.now actions moments reserved) key x result }
+    ensures { (actions : List Action) (moments : ℕ → ℕ) → StandsFor s.now actions → Knows l.now m.now.writes actions moments key
+        → IsAtomicAnswer (atomic_grounds m.now actions moments reserved) key x result }
 {
     all_drained(s, key, x)?;
     let live = may_succeed(m, reserved, key, x);

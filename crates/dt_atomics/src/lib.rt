@@ -13,8 +13,7 @@ mod tests;
 mod values;
 
 pub use accesses::AtomicAccess;
-pub use dt_loads::Passed;
-pub use dt_rules::Misfit;
+pub use dt_rules::{Misfit, Passed};
 pub use dt_step::AtomicOp;
 pub use judging::atomic;
 pub use laws::{

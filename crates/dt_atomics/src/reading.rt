@@ -1,4 +1,5 @@
 ghost use Rattle.std.specs.Prelude.{◌≡◌, ◌≤◌, ◌<◌, ◌↔◌, length, IsTrue};
+ghost use Rattle.dt_record.specs.declared.limits.TheConstants.{RAM_END, RAM_START};
 ghost use Rattle.dt_record.specs.Lawful.{is_atomic_place};
 ghost use Rattle.dt_record.specs.LoadSources.{origin_of_key};
 ghost use Rattle.dt_atomics.specs.Newer.{HasNewerByte};
@@ -47,8 +48,8 @@ pub fn sources(m: &Moments, k: u32, x: AtomicAccess) -> Sources
 
 fn source(m: &Moments, k: u32, addr: u64) -> Origin
     requires within { k ≤ length m.now.writes }
-    requires in_ram { 0x8000_0000 ≤ addr }
-    requires before_end { addr < 0x8400_0000 }
+    requires in_ram { RAM_START ≤ addr }
+    requires before_end { addr < RAM_END }
     ensures { result ≡ source_of m.now.writes k addr }
 {
     match m.source(k, addr) {

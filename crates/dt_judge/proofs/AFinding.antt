@@ -12,7 +12,7 @@ use Rattle.dt_decode.specs.declared.instructions.Instr.TheVariants.{Fence as Fen
 use Rattle.dt_decode.specs.Decoded.{IsDecoded}
 use Rattle.dt_decode.specs.Table.{instr_of}
 use Rattle.dt_hart.specs.Settings.{Setting, did, does, key_in, moments_after}
-use Rattle.dt_loads.specs.declared.reading.Passed.{Passed}
+use Rattle.dt_rules.specs.declared.misfits.Passed.{Passed}
 use Rattle.dt_loads.specs.Checks.{order_check}
 use Rattle.dt_loads.specs.Reading.{IsLoadAnswer, IsReading, LoadsHaveAnAnswer, ask_of}
 use Rattle.dt_record.specs.declared.accesses.LoadAsk.{LoadAsk}

@@ -12,7 +12,7 @@ use Rattle.dt_atomics.specs.declared.accesses.AtomicAccess.{AtomicAccess}
 use Rattle.dt_atomics.specs.Answers.{AtomicPasses, IsAtomicAnswer}
 use Rattle.dt_atomics.specs.Reading.{ReadsNewer}
 use Rattle.dt_hart.specs.Settings.{Setting, did, key_in}
-use Rattle.dt_loads.specs.declared.reading.Passed.{Passed}
+use Rattle.dt_rules.specs.declared.misfits.Passed.{Passed}
 use Rattle.dt_loads.specs.Checks.{order_check}
 use Rattle.dt_loads.specs.Reading.{HasNewer, IsLoadAnswer, IsNewer, IsReading, ask_of}
 use Rattle.dt_rules.specs.declared.misfits.Misfit.{Misfit}

@@ -9,7 +9,7 @@ use Rattle.dt_record.specs.declared.reasons.Reason.TheVariants.{LoadSource}
 use Rattle.dt_record.specs.declared.writes.Write.{Write}
 use Rattle.dt_record.specs.Actions.{Action, Loaded}
 use Rattle.dt_record.specs.LoadSources.{found_value}
-use Rattle.dt_loads.specs.declared.reading.Passed.{Passed}
+use Rattle.dt_rules.specs.declared.misfits.Passed.{Passed}
 use Rattle.dt_loads.specs.Reading.{HasNewer, IsLoadAnswer, IsNewer, IsReading, IsUnread, expected_load}
 use Rattle.dt_local.specs.LocalMemory.{LocalMemory, newest_of}
 use Rattle.dt_rules.specs.declared.misfits.Misfit.{Misfit}

@@ -5,7 +5,7 @@ use Rattle.dt_record.specs.declared.keys.Key.{Key}
 use Rattle.dt_record.specs.declared.writes.Write.{Write}
 use Rattle.dt_record.specs.Actions.{Action}
 use Rattle.dt_rules.specs.declared.misfits.Misfit.{Misfit}
-use Rattle.dt_loads.specs.declared.reading.Passed.{Passed}
+use Rattle.dt_rules.specs.declared.misfits.Passed.{Passed}
 use Rattle.dt_local.specs.LocalMemory.{LocalMemory, local_memory}
 use Rattle.dt_sources.specs.Knowing.{IsGreatest, IsKnownKey, Knows}
 use Rattle.dt_judge.specs.Kinds.{Leads}

@@ -6,6 +6,7 @@ mod FirstVisible
 mod LastVisible
 mod LaterFindings
 mod LaterFits
+mod LaterNothing
 mod LaterReads
 mod LaterWrites
 mod Leading

@@ -4,6 +4,7 @@ use Rattle.std.specs.List.{list_all}
 use Rattle.std.specs.Option.{option_to_list}
 use Rattle.std.proofs.lemmas.Bool.{and_parts}
 use Rattle.std.proofs.lemmas.Bool.Decides.{nat_tests}
+use Rattle.std.proofs.lemmas.List.{take-append-le}
 use Rattle.std.proofs.lemmas.List.Folds.{list_all-append}
 use Rattle.dt_alu.specs.Words.{sum_of}
 use Rattle.dt_record.specs.declared.origins.Sources.{Sources}
@@ -21,7 +22,7 @@ use Rattle.dt_hart.specs.OwnWrites.{GoesOn}
 use Rattle.dt_hart.specs.Settings.{Setting, arch_of, did, does, key_in}
 use Rattle.dt_hart.specs.Standing.{FencesAreEarlier, KnowsAt, KnowsAtNext, StandsFor}
 use Rattle.dt_hart.specs.Taking.{IsRead, WasJudged}
-use Rattle.dt_loads.specs.declared.reading.Passed.{Passed}
+use Rattle.dt_rules.specs.declared.misfits.Passed.{Passed}
 use Rattle.dt_local.specs.LocalMemory.{local_memory}
 use Rattle.dt_rules.specs.declared.misfits.Misfit.{Misfit}
 use Rattle.dt_versions.specs.declared.moments.Span.{Span}
@@ -36,7 +37,7 @@ use Rattle.dt_judge.specs.Judgement.{Finds, FindsBody}
 use Rattle.dt_judge.specs.Judging.{Meets}
 use Rattle.dt_judge.specs.Keeping.{IsReadIn, Remembers, WasFound, grounds_kept, window_kept}
 use Rattle.dt_judge.specs.Kinds.{seen_by}
-use Rattle.dt_judge.proofs.LaterFindings.{CheckLaws, finds_more}
+use Rattle.dt_judge.proofs.LaterFindings.{CheckLaws, SeesNoMore, finds_more}
 use Rattle.dt_judge.proofs.LaterFits.{Steady, is_seen, least_less, steady}
 use Rattle.dt_judge.proofs.LaterReads.{judged_less, knows_less, reading_more}
 use Rattle.dt_judge.proofs.LaterWrites.{first_same, last_same, last_within, own_source_same}
@@ -62,7 +63,7 @@ FoundOf h m seq r sources =
     (actions : List Action) (moments : ℕ → ℕ) → Remembers h m (key_of seq r) actions moments
     → WasFound m.image m.writes actions moments (key_of seq r) r.body sources
 
-in_order_front : (ws later : List Write) → IsTrue (are_in_order (ws ++ later)) → IsTrue (are_in_order ws)
+pub in_order_front : (ws later : List Write) → IsTrue (are_in_order (ws ++ later)) → IsTrue (are_in_order ws)
 in_order_front [] later ordered = refl
 in_order_front (w ∷ ws) later ordered =
     let above : Write → Bool = λ v. key_below w.key v.key in
@@ -155,13 +156,22 @@ module _ (laws : Laws) (h : HartView) (m : History) (s : Setting) (r : Record) (
         chosen = least_less m.writes meets.later r.stamp meets.after (did s) s.moments seen_before m.image stands_there.chosen;
       }
 
+  -- the grounds that are kept, which see no later write
+  abbrev kept : Grounds
+  kept = grounds_kept h m end (did s) s.moments
+
+  kept_sees : SeesNoMore kept meets.later
+  kept_sees =
+      let begins = sym (take-append-le end m.writes meets.later (last_within m.writes meets.later r.stamp meets.after (key_in s r) r.stamp)) in
+      record { fetch = record { first = begins; second = begins; since = begins }; window = λ va. begins }
+
   pub finds : (seq : ℕ) (seen : Span) (f : Result Passed Misfit) → IsTrue (is_lawful r) → seq ≡ h.seq → seen ≡ seen_by m.writes (key_of seq r) → FoundAs h m seq seen.last r f → Finds s r f
   finds seq seen f lawful is saw found =
       let here : FoundAs h m seq (seen_by m.writes (key_of seq r)).last r f = subst (λ (span : Span). FoundAs h m seq span.last r f) saw found in
       let its : FoundAs h m (length s.before) end r f = subst (λ n. FoundAs h m n (seen_by m.writes (key_of n r)).last r f) (is ∙ meets.stands.seq) here in
       let few = its (did s) s.moments remembers in
       let more =
-      finds_more laws.checks h m meets.later r.stamp meets.after end (last_within m.writes meets.later r.stamp meets.after (key_in s r) r.stamp) (did s) s.moments same_origins seen_before (key_in s r) r.body f
+      finds_more laws.checks kept meets.later r.stamp meets.after kept_sees same_origins seen_before (key_in s r) r.body f
       (record_reads r lawful) refl few in
       subst (λ (x : Setting). Finds x r f) (sym (is_settled h m s r meets)) (subst (λ (g : Grounds). FindsBody g (key_in s r) r.body f) (sym same_grounds) more)
 

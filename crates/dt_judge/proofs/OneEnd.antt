@@ -12,7 +12,7 @@ use Rattle.dt_rules.specs.declared.misfits.Misfit.{Misfit}
 use Rattle.dt_rules.specs.declared.misfits.TheConstants.{NO_LETTERS, NO_SOURCES}
 use Rattle.dt_sources.specs.Choice.{LeastChoiceIsLeast}
 use Rattle.dt_versions.specs.History.{are_in_order}
-use Rattle.dt_loads.specs.declared.reading.Passed.{Passed}
+use Rattle.dt_rules.specs.declared.misfits.Passed.{Passed}
 use Rattle.dt_judge.specs.Judgement.{Finds}
 use Rattle.dt_judge.specs.Laws.{AgreeAtLoads, EarlierMomentsDecide, RecordsHaveOneFinding, RunsHaveOneEnd}
 use Rattle.dt_judge.specs.Runs.{AreAllowed, EndsAllowed, setting_at}

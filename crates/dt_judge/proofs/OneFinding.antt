@@ -9,7 +9,7 @@ use Rattle.dt_access.specs.Translating.{atomic_access}
 use Rattle.dt_atomics.specs.declared.accesses.AtomicAccess.{AtomicAccess}
 use Rattle.dt_atomics.specs.Laws.{AtomicsHaveOneAnswer}
 use Rattle.dt_hart.specs.Settings.{Setting, key_in}
-use Rattle.dt_loads.specs.declared.reading.Passed.{Passed}
+use Rattle.dt_rules.specs.declared.misfits.Passed.{Passed}
 use Rattle.dt_loads.specs.Checks.{order_check}
 use Rattle.dt_loads.specs.Reading.{LoadsHaveOneAnswer, ask_of}
 use Rattle.dt_rules.specs.declared.misfits.Misfit.{Misfit}

@@ -11,7 +11,7 @@ use Rattle.dt_record.specs.Actions.{Action}
 use Rattle.dt_record.specs.Lawful.{is_in_ram}
 use Rattle.dt_checks.specs.Retiring.{IsRetired}
 use Rattle.dt_hart.specs.HartView.{HartView}
-use Rattle.dt_loads.specs.declared.reading.Passed.{Passed}
+use Rattle.dt_rules.specs.declared.misfits.Passed.{Passed}
 use Rattle.dt_loads.specs.Reading.{IsLoadAnswer, ask_of}
 use Rattle.dt_reference.specs.HartActions.{body_action}
 use Rattle.dt_rules.specs.declared.misfits.Misfit.{Misfit}

@@ -8,7 +8,7 @@ use Rattle.dt_rules.specs.declared.misfits.TheConstants.{NO_LETTERS}
 use Rattle.dt_rules.specs.Checks.{and_then}
 use Rattle.dt_commits.specs.States.{registers_check, csrs_check}
 use Rattle.dt_drains.specs.Draining.{drain_check}
-use Rattle.dt_loads.specs.declared.reading.Passed.{Passed}
+use Rattle.dt_rules.specs.declared.misfits.Passed.{Passed}
 use Rattle.dt_hart.specs.Settings.{Setting, key_in}
 use Rattle.dt_judge.specs.Grounds.{Grounds, grounds_of}
 use Rattle.dt_judge.specs.Kinds.{passed, fine, commit_finding, trap_finding, store_finding, refill_finding, IsLoadFinding, IsAtomicFinding}

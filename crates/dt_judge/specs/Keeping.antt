@@ -49,7 +49,10 @@ fetch_kept h writes last = record {
 
 -- the moments for a trap: of the fetch, and of the page that its instruction accesses, if it accesses one
 abbrev pub trap_kept : HartView → List Write → (last : ℕ) → (bits : ℕ) → TrapSpans
-trap_kept h writes last bits = record { fetch = fetch_kept h writes last; access = window_kept h writes last (unwrap_or (access_address h.arch bits) 0) }
+trap_kept h writes last bits = record {
+  fetch = fetch_kept h writes last;
+  access = window_kept h writes last (unwrap_or (access_address h.arch bits) 0);
+}
 
 -- the grounds of such a record, where its hart did these actions
 abbrev pub grounds_kept : HartView → History → (last : ℕ) → List Action → (ℕ → ℕ) → Grounds
@@ -74,6 +77,14 @@ pub record Remembers (h : HartView) (m : History) (key : Key) (actions : List Ac
   pub in_order : IsTrue (are_in_order m.writes)
   pub chosen : AreLeastSources m.image m.writes actions moments
 
+-- whatever actions and moments the hart remembers before a record with this key, that holds of them
+abbrev pub OnPast : HartView → History → Key → (List Action → (ℕ → ℕ) → Type 0) → Type 0
+OnPast h m key P = (actions : List Action) (moments : ℕ → ℕ) → Remembers h m key actions moments → P actions moments
+
+-- the same of the grounds of such a record that may see no moment after this last one
+abbrev pub OnGrounds : HartView → History → (last : ℕ) → Key → (Grounds → Type 0) → Type 0
+OnGrounds h m last key P = OnPast h m key (λ actions moments. P (grounds_kept h m last actions moments))
+
 -- the physical address of a load or a store is aligned to its width
 abbrev pub IsPlacedBy : Planned → (paddr : ℕ) → Type 0
 IsPlacedBy (NeedsLoad va width signed rd) paddr = IsAligned paddr width
@@ -93,7 +104,8 @@ IsReadBy image writes actions moments plan key value at paddr sources = Unit {0}
 
 -- an LR or AMO with this plan had its bytes from the writes with smaller keys
 abbrev pub IsAccessedBy : List Write → Planned → Key → (paddr width : ℕ) → Sources → Type 0
-IsAccessedBy writes (NeedsAtomic va planned op aq rl rd operand) key paddr width sources = IsTrue (reads op) → ReadsAtKey writes key paddr width sources
+IsAccessedBy writes (NeedsAtomic va planned op aq rl rd operand) key paddr width sources =
+    IsTrue (reads op) → ReadsAtKey writes key paddr width sources
 IsAccessedBy writes plan key paddr width sources = Unit {0}
 
 -- an action that is a load from RAM did, or one that is an LR or AMO had its bytes from these sources
@@ -104,6 +116,7 @@ IsReadIn image writes actions moments (Some (Atomic key addr width reads acquire
 IsReadIn image writes actions moments action sources = Unit {0}
 
 -- what was found of the body of an allowed record: where a load, an LR or an AMO read, and which stores a drain took
-pub record WasFound (image : List ℕ) (writes : List Write) (actions : List Action) (moments : ℕ → ℕ) (key : Key) (body : Body) (sources : Sources) : Type 0 where
+pub record WasFound (image : List ℕ) (writes : List Write) (actions : List Action) (moments : ℕ → ℕ) (key : Key) (body : Body)
+    (sources : Sources) : Type 0 where
   pub is_read : IsReadIn image writes actions moments (body_action key body) sources
   pub is_drained : IsDrained actions body

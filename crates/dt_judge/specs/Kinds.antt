@@ -28,7 +28,7 @@ use Rattle.dt_checks.specs.Addresses.{address_check}
 use Rattle.dt_commits.specs.Undrained.{undrained_check}
 use Rattle.dt_commits.specs.Values.{commit_value_check}
 use Rattle.dt_drains.specs.Draining.{store_data_check}
-use Rattle.dt_loads.specs.declared.reading.Passed.{Passed}
+use Rattle.dt_rules.specs.declared.misfits.Passed.{Passed}
 use Rattle.dt_loads.specs.Checks.{device_check, order_check}
 use Rattle.dt_loads.specs.Reading.{HasEightPlaces, IsLoadAnswer, ask_of}
 use Rattle.dt_refills.specs.Refilling.{refill_check}

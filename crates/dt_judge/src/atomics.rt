@@ -3,12 +3,11 @@ ghost use Rattle.dt_atomics.specs.Asking.{reads};
 ghost use Rattle.dt_checks.specs.Retiring.{due_tag};
 ghost use Rattle.dt_hart.specs.Taking.{ReadsAtKey};
 ghost use Rattle.dt_record.specs.declared.records.Body.TheVariants as body;
-ghost use Rattle.dt_record.specs.Actions.{Action};
 ghost use Rattle.dt_record.specs.Lawful.{is_atomic_place, is_instruction};
 ghost use Rattle.dt_reference.specs.HartActions.{body_action};
 ghost use Rattle.dt_reference.specs.Run.{CanRetire};
 ghost use Rattle.dt_step.specs.Alignment.{AccessesAligned};
-ghost use Rattle.dt_judge.specs.Keeping.{IsAccessedBy, IsReadIn, Remembers, grounds_kept};
+ghost use Rattle.dt_judge.specs.Keeping.{IsAccessedBy, IsReadIn, OnGrounds, OnPast};
 ghost use Rattle.dt_judge.specs.Kinds.{Accesses, AtomicBy, IsAtomicFinding};
 
 use crate::kinds::{of_another_kind, with_p};
@@ -17,9 +16,8 @@ use dt_access::atomic_access;
 use dt_atomics::{AtomicAccess, allowed_atomics_are_exact};
 use dt_checks::Started;
 use dt_hart::Hart;
-use dt_loads::Passed;
 use dt_record::{Key, Retire};
-use dt_rules::Misfit;
+use dt_rules::{Misfit, Passed};
 use dt_step::Planned;
 use dt_versions::Moments;
 
@@ -48,8 +46,9 @@ pub fn said_as(value: u64, paddr: u64, width: u8, wrote: bool, new: u64) -> Said
 /// An atomic at an allowed address. `p` is whether its fetch or its address is older.
 fn at_address(h: &Hart, m: &Moments, p: bool, key: Key, x: AtomicAccess) -> Result<Passed, Misfit>
     requires { IsTrue (is_atomic_place x.paddr x.width) }
-    ensures finds { (last : ℕ) (actions : List Action) (moments : ℕ → ℕ) → Remembers h.now m.now key actions moments → Accesses (grounds_kept h.now m.now last actions moments) key p x result }
-    ensures read { IfOk result (λ passed. (actions : List Action) (moments : ℕ → ℕ) → Remembers h.now m.now key actions moments → IsTrue (reads x.op) → ReadsAtKey m.now.writes key x.paddr x.said_width passed.sources) }
+    ensures finds { (last : ℕ) → OnGrounds h.now m.now last key (λ g. Accesses g key p x result) }
+    ensures read { IfOk result (λ passed. OnPast h.now m.now key (λ actions moments.
+        IsTrue (reads x.op) → ReadsAtKey m.now.writes key x.paddr x.said_width passed.sources)) }
 {
     allowed_atomics_are_exact();
     with_p(
@@ -70,8 +69,9 @@ fn planned(
     requires within { last ≤ length m.now.writes }
     requires aligned { AccessesAligned st.plan }
     requires due { due_tag st.plan ≡ 7 }
-    ensures finds { (actions : List Action) (moments : ℕ → ℕ) → Remembers h.now m.now key actions moments → AtomicBy (grounds_kept h.now m.now last actions moments) key st.stale st.plan said result }
-    ensures read { IfOk result (λ passed. (actions : List Action) (moments : ℕ → ℕ) → Remembers h.now m.now key actions moments → IsAccessedBy m.now.writes st.plan key said.paddr said.width passed.sources) }
+    ensures finds { OnGrounds h.now m.now last key (λ g. AtomicBy g key st.stale st.plan said result) }
+    ensures read { IfOk result (λ passed. OnPast h.now m.now key (λ actions moments.
+        IsAccessedBy m.now.writes st.plan key said.paddr said.width passed.sources)) }
 {
     match st.plan {
         Planned::NeedsAtomic {
@@ -110,9 +110,11 @@ pub fn atomic(
 ) -> Result<Passed, Misfit>
     requires within { last ≤ length m.now.writes }
     requires instruction { IsTrue (is_instruction retire.bits) }
-    ensures finds { (actions : List Action) (moments : ℕ → ℕ) → Remembers h.now m.now key actions moments → IsAtomicFinding (grounds_kept h.now m.now last actions moments) key retire.pc retire.bits said result }
+    ensures finds { OnGrounds h.now m.now last key (λ g. IsAtomicFinding g key retire.pc retire.bits said result) }
     ensures can_retire { OnOk result (CanRetire h.now.arch retire.bits) }
-    ensures read { IfOk result (λ passed. (actions : List Action) (moments : ℕ → ℕ) → Remembers h.now m.now key actions moments → IsReadIn m.now.image m.now.writes actions moments (body_action key (body.Atomic retire said.paddr said.width said.wrote said.new)) passed.sources) }
+    ensures read { IfOk result (λ passed. OnPast h.now m.now key (λ actions moments.
+        IsReadIn m.now.image m.now.writes actions moments
+        (body_action key (body.Atomic retire said.paddr said.width said.wrote said.new)) passed.sources)) }
 {
     let st = started(h, m, last, retire.pc, retire.bits, 7)?;
     planned(h, m, last, key, st, said)

@@ -1,11 +1,10 @@
 ghost use Rattle.std.specs.Prelude.{◌≡◌, ◌≤◌, ℕ, List, length, IsTrue, OnOk, IfOk};
-ghost use Rattle.dt_record.specs.Actions.{Action};
 ghost use Rattle.dt_record.specs.Lawful.{IsLawful};
 ghost use Rattle.dt_hart.specs.Taking.{is_placed};
 ghost use Rattle.dt_reference.specs.HartActions.{body_action};
 ghost use Rattle.dt_reference.specs.Run.{CanFollow};
 ghost use Rattle.dt_judge.specs.Judgement.{FindsBody};
-ghost use Rattle.dt_judge.specs.Keeping.{Remembers, WasFound, grounds_kept};
+ghost use Rattle.dt_judge.specs.Keeping.{OnGrounds, OnPast, WasFound};
 ghost use Rattle.dt_judge.specs.Kinds.{seen_by};
 
 use crate::atomics::{atomic, said_as};
@@ -13,9 +12,8 @@ use crate::kinds::{PLAIN, commit, drain, fine, refill, store, trap};
 use crate::loads::load;
 use dt_commits::{shows_csrs, shows_registers};
 use dt_hart::Hart;
-use dt_loads::Passed;
 use dt_record::{Body, Key, Record};
-use dt_rules::Misfit;
+use dt_rules::{Misfit, Passed};
 use dt_versions::{Moments, Span};
 
 /// What the judgement finds of the hart's record with this key, which may see these moments.
@@ -30,10 +28,11 @@ pub fn finding(
     requires within { seen.last ≤ length m.now.writes }
     requires lawful { IsLawful event.now }
     requires stamp { key.stamp ≡ event.now.stamp }
-    ensures finds { (actions : List Action) (moments : ℕ → ℕ) → Remembers h.now m.now key actions moments → FindsBody (grounds_kept h.now m.now seen.last actions moments) key event.now.body result }
+    ensures finds { OnGrounds h.now m.now seen.last key (λ g. FindsBody g key event.now.body result) }
     ensures follows { OnOk result (CanFollow h.now.arch event.now.body) }
     ensures placed { OnOk result (IsTrue (is_placed (body_action key event.now.body))) }
-    ensures found { IfOk result (λ x. (actions : List Action) (moments : ℕ → ℕ) → Remembers h.now m.now key actions moments → WasFound m.now.image m.now.writes actions moments key event.now.body x.sources) }
+    ensures found { IfOk result (λ x. OnPast h.now m.now key (λ actions moments.
+        WasFound m.now.image m.now.writes actions moments key event.now.body x.sources)) }
 {
     let last = seen.last;
     match &event.body {

@@ -20,9 +20,8 @@ use dt_checks::Started;
 use dt_commits::{commit_value, undrained};
 use dt_drains::{drains, store_data};
 use dt_hart::Hart;
-use dt_loads::Passed;
 use dt_record::{Key, Letters, Retire};
-use dt_rules::{Misfit, NO_LETTERS, NO_NUMBER, NO_SOURCES, Reason};
+use dt_rules::{Misfit, NO_LETTERS, NO_NUMBER, NO_SOURCES, Passed, Reason};
 use dt_step::Planned;
 use dt_stores::DrainAnswer;
 use dt_versions::{Moments, Span};
@@ -70,7 +69,8 @@ pub fn with_p(p: bool, found: Result<Passed, Misfit>) -> Result<Passed, Misfit>
 pub fn commit(h: &Hart, m: &Moments, last: u32, key: Key, retire: Retire) -> Result<Passed, Misfit>
     requires within { last ≤ length m.now.writes }
     requires instruction { IsTrue (is_instruction retire.bits) }
-    ensures finds { (actions : List Action) (moments : ℕ → ℕ) → Keeps h.now.stores actions → result ≡ commit_finding (grounds_kept h.now m.now last actions moments) key retire }
+    ensures finds { (actions : List Action) (moments : ℕ → ℕ) → Keeps h.now.stores actions
+        → result ≡ commit_finding (grounds_kept h.now m.now last actions moments) key retire }
     ensures can_retire { OnOk result (CanRetire h.now.arch retire.bits) }
 {
     let st = started(h, m, last, retire.pc, retire.bits, 1)?;
@@ -115,7 +115,8 @@ pub fn trap(
 ) -> Result<Passed, Misfit>
     requires within { last ≤ length m.now.writes }
     requires bits { IsTrue (are_trap_bits bits cause) }
-    ensures { (actions : List Action) (moments : ℕ → ℕ) → result ≡ trap_finding (grounds_kept h.now m.now last actions moments) pc bits cause tval }
+    ensures { (actions : List Action) (moments : ℕ → ℕ)
+        → result ≡ trap_finding (grounds_kept h.now m.now last actions moments) pc bits cause tval }
 {
     let letters = trapped(h, m, last, pc, bits, cause, tval)?;
     Ok(Passed {
@@ -136,7 +137,8 @@ fn stored(
     requires within { last ≤ length m.now.writes }
     requires aligned { AccessesAligned st.plan }
     requires due { due_tag st.plan ≡ 6 }
-    ensures finds { (actions : List Action) (moments : ℕ → ℕ) → result ≡ stored (grounds_kept h.now m.now last actions moments) st.stale st.plan paddr value }
+    ensures finds { (actions : List Action) (moments : ℕ → ℕ)
+        → result ≡ stored (grounds_kept h.now m.now last actions moments) st.stale st.plan paddr value }
     ensures placed { OnOk result (IsPlacedBy st.plan paddr) }
 {
     match st.plan {
@@ -166,7 +168,8 @@ pub fn store(
 ) -> Result<Passed, Misfit>
     requires within { last ≤ length m.now.writes }
     requires instruction { IsTrue (is_instruction bits) }
-    ensures finds { (actions : List Action) (moments : ℕ → ℕ) → result ≡ store_finding (grounds_kept h.now m.now last actions moments) pc bits paddr value }
+    ensures finds { (actions : List Action) (moments : ℕ → ℕ)
+        → result ≡ store_finding (grounds_kept h.now m.now last actions moments) pc bits paddr value }
     ensures can_retire { OnOk result (CanRetire h.now.arch bits) }
     ensures placed { OnOk result (IsTrue (is_placed_at bits paddr)) }
 {
@@ -182,8 +185,10 @@ pub fn drain(
     bytes: &[u8; 64],
     seq: u32,
 ) -> Result<Passed, Misfit>
-    ensures finds { (actions : List Action) → Keeps h.now.stores actions → result ≡ and_then (drain_check actions line mask count bytes.now seq) fine }
-    ensures took { OnOk result ((actions : List Action) → Keeps h.now.stores actions → drain_answer actions line count ≡ DrainAnswer.Took mask bytes.now) }
+    ensures finds { (actions : List Action) → Keeps h.now.stores actions
+        → result ≡ and_then (drain_check actions line mask count bytes.now seq) fine }
+    ensures took { OnOk result ((actions : List Action) → Keeps h.now.stores actions
+        → drain_answer actions line count ≡ DrainAnswer.Took mask bytes.now) }
 {
     drains(h.stores(), line, mask, count, bytes, seq)?;
     Ok(PLAIN)

@@ -13,7 +13,8 @@ mod spans;
 mod tests;
 
 pub use dt_hart::Hart;
-pub use judging::{Judged, judge};
+pub use judging::{Judged, judge, judge_at};
 pub use laws::{
-    earlier_moments_decide, records_have_one_finding, runs_have_an_end, runs_have_one_end,
+    earlier_moments_decide, later_writes_decide_nothing, records_have_one_finding,
+    runs_have_an_end, runs_have_one_end,
 };

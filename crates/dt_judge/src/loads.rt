@@ -1,8 +1,7 @@
 ghost use Rattle.std.specs.Prelude.{◌≡◌, ◌≤◌, ℕ, List, length, IsTrue, OnOk, IfOk};
 ghost use Rattle.dt_alu.specs.Extend.{IsAccessWidth};
 ghost use Rattle.dt_record.specs.declared.records.Body.TheVariants as body;
-ghost use Rattle.dt_record.specs.Actions.{Action};
-ghost use Rattle.dt_record.specs.Lawful.{is_in_ram, is_instruction};
+ghost use Rattle.dt_record.specs.Lawful.{is_instruction};
 ghost use Rattle.dt_checks.specs.Retiring.{due_tag};
 ghost use Rattle.dt_hart.specs.Taking.{is_placed_at};
 ghost use Rattle.dt_reference.specs.HartActions.{body_action};
@@ -10,24 +9,18 @@ ghost use Rattle.dt_reference.specs.Run.{CanRetire};
 ghost use Rattle.dt_sources.specs.Finding.{is_load_place};
 ghost use Rattle.dt_step.specs.Alignment.{AccessesAligned};
 ghost use Rattle.dt_judge.specs.Kinds.{IsLoadFinding, LoadsBy, LoadsRam, ReadsRam, device_finding};
-ghost use Rattle.dt_judge.specs.Keeping.{HasReading, IsPlacedBy, IsReadBy, IsReadIn, Remembers, grounds_kept};
+ghost use Rattle.dt_judge.specs.Keeping.{HasReading, IsPlacedBy, IsReadBy, IsReadIn, OnGrounds, OnPast};
 
 use crate::kinds::{of_another_kind, with_p};
 use crate::spans::{accessed, started};
 use dt_checks::Started;
 use dt_hart::Hart;
-use dt_loads::{Passed, device_value, load_ask, order, ram_load};
-use dt_record::{Key, Letters, LoadAsk, RAM_END, RAM_START, Retire};
-use dt_rules::{Misfit, NO_LETTERS, NO_SOURCES};
+use dt_loads::{device_value, load_ask, order, ram_load};
+use dt_record::{Key, Letters, LoadAsk, Retire, is_in_ram};
+use dt_rules::{Misfit, NO_LETTERS, NO_SOURCES, Passed};
 use dt_step::Planned;
 use dt_versions::Moments;
 use dt_walk::Access;
-
-fn is_in_ram(addr: u64) -> bool
-    ensures { result ≡ is_in_ram addr }
-{
-    RAM_START <= addr && addr < RAM_END
-}
 
 /// A load from a device. `p` is whether its fetch or its address is older.
 fn from_device(p: bool, width: u8, signed: bool, value: u64) -> Result<Passed, Misfit>
@@ -56,8 +49,9 @@ fn sourced(
 ) -> Result<Passed, Misfit>
     requires early { ask.at ≤ ask.key.stamp }
     requires place { IsTrue (is_load_place ask) }
-    ensures finds { (last : ℕ) (actions : List Action) (moments : ℕ → ℕ) → Remembers h.now m.now ask.key actions moments → ReadsRam (grounds_kept h.now m.now last actions moments) p ask signed value result }
-    ensures read { IfOk result (λ x. (actions : List Action) (moments : ℕ → ℕ) → Remembers h.now m.now ask.key actions moments → HasReading m.now.image m.now.writes actions moments ask x.sources) }
+    ensures finds { (last : ℕ) → OnGrounds h.now m.now last ask.key (λ g. ReadsRam g p ask signed value result) }
+    ensures read { IfOk result (λ x. OnPast h.now m.now ask.key (λ actions moments.
+        HasReading m.now.image m.now.writes actions moments ask x.sources)) }
 {
     with_p(p, ram_load(m, h.stores(), h.local(), ask, signed, value))
 }
@@ -73,8 +67,9 @@ fn from_ram(
 ) -> Result<Passed, Misfit>
     requires early { ask.at ≤ ask.key.stamp }
     requires place { IsTrue (is_load_place ask) }
-    ensures finds { (last : ℕ) (actions : List Action) (moments : ℕ → ℕ) → Remembers h.now m.now ask.key actions moments → LoadsRam (grounds_kept h.now m.now last actions moments) p ask signed value result }
-    ensures read { IfOk result (λ x. (actions : List Action) (moments : ℕ → ℕ) → Remembers h.now m.now ask.key actions moments → HasReading m.now.image m.now.writes actions moments ask x.sources) }
+    ensures finds { (last : ℕ) → OnGrounds h.now m.now last ask.key (λ g. LoadsRam g p ask signed value result) }
+    ensures read { IfOk result (λ x. OnPast h.now m.now ask.key (λ actions moments.
+        HasReading m.now.image m.now.writes actions moments ask x.sources)) }
 {
     order(h.stores(), h.floor(), ask.at)?;
     sourced(h, m, p, ask, signed, value)
@@ -95,9 +90,10 @@ fn loaded(
     requires aligned { AccessesAligned st.plan }
     requires due { due_tag st.plan ≡ 5 }
     requires early { at ≤ key.stamp }
-    ensures finds { (actions : List Action) (moments : ℕ → ℕ) → Remembers h.now m.now key actions moments → LoadsBy (grounds_kept h.now m.now last actions moments) key st.stale st.plan value at paddr result }
+    ensures finds { OnGrounds h.now m.now last key (λ g. LoadsBy g key st.stale st.plan value at paddr result) }
     ensures placed { OnOk result (IsPlacedBy st.plan paddr) }
-    ensures read { IfOk result (λ x. (actions : List Action) (moments : ℕ → ℕ) → Remembers h.now m.now key actions moments → IsReadBy m.now.image m.now.writes actions moments st.plan key value at paddr x.sources) }
+    ensures read { IfOk result (λ x. OnPast h.now m.now key (λ actions moments.
+        IsReadBy m.now.image m.now.writes actions moments st.plan key value at paddr x.sources)) }
 {
     match st.plan {
         Planned::NeedsLoad {
@@ -131,10 +127,11 @@ pub fn load(
     requires within { last ≤ length m.now.writes }
     requires instruction { IsTrue (is_instruction retire.bits) }
     requires early { at ≤ key.stamp }
-    ensures finds { (actions : List Action) (moments : ℕ → ℕ) → Remembers h.now m.now key actions moments → IsLoadFinding (grounds_kept h.now m.now last actions moments) key retire at paddr result }
+    ensures finds { OnGrounds h.now m.now last key (λ g. IsLoadFinding g key retire at paddr result) }
     ensures can_retire { OnOk result (CanRetire h.now.arch retire.bits) }
     ensures placed { OnOk result (IsTrue (is_placed_at retire.bits paddr)) }
-    ensures read { IfOk result (λ x. (actions : List Action) (moments : ℕ → ℕ) → Remembers h.now m.now key actions moments → IsReadIn m.now.image m.now.writes actions moments (body_action key (body.Load retire at paddr)) x.sources) }
+    ensures read { IfOk result (λ x. OnPast h.now m.now key (λ actions moments.
+        IsReadIn m.now.image m.now.writes actions moments (body_action key (body.Load retire at paddr)) x.sources)) }
 {
     let st = started(h, m, last, retire.pc, retire.bits, 5)?;
     loaded(h, m, last, key, st, retire.value, at, paddr)

@@ -102,7 +102,8 @@ pub fn accessed(
     paddr: u64,
 ) -> Result<bool, Misfit>
     requires within { last ≤ length m.now.writes }
-    ensures value { result ≡ address_check m.now.image m.now.writes (window_kept h.now m.now.writes last va) (walk_args h.now.arch access va) ram_only paddr }
+    ensures value { result ≡ address_check m.now.image m.now.writes (window_kept h.now m.now.writes last va)
+        (walk_args h.now.arch access va) ram_only paddr }
     ensures place { OnOk result (IsPlaceOf va ram_only paddr) }
 {
     let args = walk_args(h.arch(), access, va);

@@ -1,5 +1,5 @@
 use crate::{Hart, Judged, judge};
-use dt_record::{Body, Image, Key, Origin, Record, Retire, Sources, Write, lawful};
+use dt_record::{Body, Image, Key, Origin, RECORD_LIMIT, Record, Retire, Sources, Write, lawful};
 use dt_rules::{Letters, NO_LETTERS, NO_NUMBER, NO_SOURCES, Reason};
 use dt_versions::Moments;
 use std::alloc::{AllocError, Global};
@@ -49,7 +49,7 @@ fn judge_all(rt: &impl Abort, hart: &mut Hart, m: &Moments, steps: &[(u64, Body,
             body: *body,
         };
         assert!(rt; lawful(&event));
-        assert!(rt; hart.stamp() <= *stamp && hart.seq() < 4_194_304);
+        assert!(rt; hart.stamp() <= *stamp && hart.seq() < RECORD_LIMIT);
         assert_eq!(rt; judge(hart, m, &event), *expected, "{event:?}");
     }
 }

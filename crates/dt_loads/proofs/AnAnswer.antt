@@ -15,7 +15,7 @@ use Rattle.dt_sources.specs.Choice.{FitsNext, LeastChoiceGoesOn, LeastChoiceIsLe
 use Rattle.dt_sources.specs.Finding.{AreSourcesAt}
 use Rattle.dt_rules.specs.declared.misfits.Misfit.{Misfit}
 use Rattle.dt_rules.specs.Checks.{misfit}
-use Rattle.dt_loads.specs.declared.reading.Passed.{Passed}
+use Rattle.dt_rules.specs.declared.misfits.Passed.{Passed}
 use Rattle.dt_loads.specs.Reading.{HasEightPlaces, HasNewer, IsLoadAnswer, IsReading, LoadsHaveAnAnswer, expected_load, load_letters}
 use Rattle.dt_loads.proofs.Deciding.{fits_or_none, newer_or_not}
 

@@ -13,7 +13,7 @@ use Rattle.dt_record.specs.LoadSources.{origin_of, AreLeastSources}
 use Rattle.dt_sources.specs.Choice.{then_action, with_moment}
 use Rattle.dt_sources.specs.Finding.{AreSourcesAt}
 use Rattle.dt_alu.specs.Extend.{extend_value}
-use Rattle.dt_loads.specs.declared.reading.Passed.{Passed}
+use Rattle.dt_rules.specs.declared.misfits.Passed.{Passed}
 use Rattle.dt_loads.specs.Reading.{HasNewer, IsReading, IsUnread, LoadsHaveOneAnswer, load_letters}
 use Rattle.dt_loads.proofs.Moments.{moment_here, next_seam}
 

@@ -20,7 +20,7 @@ use Rattle.dt_alu.specs.Extend.{extend_value, low_bytes_of}
 use Rattle.dt_rules.specs.declared.misfits.Misfit.{Misfit}
 use Rattle.dt_rules.specs.declared.misfits.TheConstants.{NO_LETTERS}
 use Rattle.dt_rules.specs.Checks.{misfit}
-use Rattle.dt_loads.specs.declared.reading.Passed.{Passed}
+use Rattle.dt_rules.specs.declared.misfits.Passed.{Passed}
 
 -- What a load from RAM may give, after some actions of its hart whose loads read memory at these
 -- moments (this project's own).
@@ -48,7 +48,8 @@ load_letters newer = record NO_LETTERS { l = newer }
 -- What a load that is allowed has: the sources of its bytes at its moment in the least fitting assignment
 -- of the loads up to it, which gives the loads before it theirs, and the letter L where some byte then comes
 -- from a newer write than its hart knew.
-pub record IsReading (image : List ℕ) (writes : List Write) (actions : List Action) (moments : ℕ → ℕ) (ask : LoadAsk) (passed : Passed) : Type 0 where
+pub record IsReading (image : List ℕ) (writes : List Write) (actions : List Action) (moments : ℕ → ℕ) (ask : LoadAsk)
+    (passed : Passed) : Type 0 where
   pub moment : ℕ
   pub chosen : AreLeastSources image writes (then_action actions (Loaded ask)) (with_moment moments (length actions) moment)
   pub sources : AreSourcesAt writes actions ask moment passed.sources
@@ -69,7 +70,8 @@ IsUnread image writes actions ask signed value =
 
 -- The answer to a load with this value: it is allowed where the value extends the loaded bytes and
 -- these have sources, and refused where not.
-abbrev pub IsLoadAnswer : List ℕ → List Write → List Action → (ℕ → ℕ) → LoadAsk → Bool → ℕ → Result Passed Misfit → Type 0
+abbrev pub IsLoadAnswer : List ℕ → List Write → List Action → (ℕ → ℕ) → LoadAsk → Bool → ℕ
+    → Result Passed Misfit → Type 0
 IsLoadAnswer image writes actions moments ask signed value (Ok passed) =
     (extend_value ask.width signed ask.raw ≡ value) × IsReading image writes actions moments ask passed
 IsLoadAnswer image writes actions moments ask signed value (Err refused) =
@@ -97,14 +99,17 @@ HasEightPlaces (Err refused) = Unit {0}
 
 -- no load has two answers
 abbrev pub LoadsHaveOneAnswer : Type 0
-LoadsHaveOneAnswer = (image : List ℕ) (writes : List Write) (actions : List Action) (moments : ℕ → ℕ) (ask : LoadAsk) (signed : Bool) (value : ℕ) (one other : Result Passed Misfit)
+LoadsHaveOneAnswer = (image : List ℕ) (writes : List Write) (actions : List Action) (moments : ℕ → ℕ) (ask : LoadAsk) (signed : Bool)
+    (value : ℕ) (one other : Result Passed Misfit)
     → HasEightPlaces one → HasEightPlaces other
-    → IsLoadAnswer image writes actions moments ask signed value one → IsLoadAnswer image writes actions moments ask signed value other → one ≡ other
+    → IsLoadAnswer image writes actions moments ask signed value one
+    → IsLoadAnswer image writes actions moments ask signed value other → one ≡ other
 
 -- a load of at most eight bytes has an answer, where the loads before it read at the moments of the least fitting
 -- assignment and the writes stand in the order of their keys
 abbrev pub LoadsHaveAnAnswer : Type 0
-LoadsHaveAnAnswer = (image : List ℕ) (writes : List Write) (actions : List Action) (moments : ℕ → ℕ) (ask : LoadAsk) (signed : Bool) (value : ℕ)
+LoadsHaveAnAnswer = (image : List ℕ) (writes : List Write) (actions : List Action) (moments : ℕ → ℕ) (ask : LoadAsk) (signed : Bool)
+    (value : ℕ)
     → ask.width ≤ 8 → IsTrue (are_in_order writes) → AreLeastSources image writes actions moments
     → (answer : Result Passed Misfit) × HasEightPlaces answer × IsLoadAnswer image writes actions moments ask signed value answer
 

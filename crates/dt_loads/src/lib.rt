@@ -11,6 +11,6 @@ mod tests;
 
 pub use checks::{device_value, order};
 pub use dt_record::{LoadAsk, Sources};
-pub use dt_rules::Misfit;
+pub use dt_rules::{Misfit, Passed};
 pub use laws::{known_keys_are_decided, loads_have_an_answer, loads_have_one_answer};
-pub use reading::{Passed, is_newer, load_ask, ram_load};
+pub use reading::{is_newer, load_ask, ram_load};

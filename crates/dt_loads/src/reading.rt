@@ -1,6 +1,7 @@
 ghost use Rattle.std.specs.Prelude.{◌≡◌, ℕ, ◌+◌, ◌≤◌, ◌<◌, ◌↔◌, Some, List, length, slice_get, IsTrue};
 ghost use Rattle.dt_alu.specs.Extend.{IsAccessWidth};
 ghost use Rattle.dt_record.specs.Actions.{Action};
+ghost use Rattle.dt_record.specs.declared.limits.TheConstants.{RAM_END, RAM_START};
 ghost use Rattle.dt_record.specs.LoadSources.{found_byte, found_value};
 ghost use Rattle.dt_stores.specs.Standing.{StandsFor};
 ghost use Rattle.dt_sources.specs.Finding.{is_load_place};
@@ -12,20 +13,12 @@ ghost use Rattle.dt_loads.specs.Reading.{ask_of, load_letters, expected_load, Is
 use dt_alu::extend;
 use dt_local::Local;
 use dt_record::{Key, Letters, LoadAsk, Origin, Sources};
-use dt_rules::{Misfit, NO_LETTERS, Reason};
+use dt_rules::{Misfit, NO_LETTERS, Passed, Reason};
 use dt_sources::{
     Found, find, known_fit_is_fit, least_choice_goes_on, least_choice_is_least, refusal_is_exact,
 };
 use dt_stores::Stores;
 use dt_versions::Moments;
-
-/// What is told of a load from RAM that is allowed.
-#[derive(Clone, Copy, Debug, PartialEq, Eq)]
-pub struct Passed {
-    /// L or none.
-    pub letters: Letters,
-    pub sources: Sources,
-}
 
 /// A load from RAM, of 1, 2, 4 or 8 bytes, as it asks where its bytes may come from.
 #[tactic(auto, unfolding(dt_alu::specs::Extend::extend_value))]
@@ -112,7 +105,8 @@ pub fn is_newer(from: Origin, newest: Option<Key>) -> bool
 fn refusal(m: &Moments, s: &Stores, ask: LoadAsk, signed: bool, value: u64) -> Misfit
     requires early { ask.at ≤ ask.key.stamp }
     requires place { IsTrue (is_load_place ask) }
-    ensures { (actions : List Action) → StandsFor s.now actions → result ≡ misfit LoadSource (expected_load m.now.image m.now.writes actions ask signed) value }
+    ensures { (actions : List Action) → StandsFor s.now actions
+        → result ≡ misfit LoadSource (expected_load m.now.image m.now.writes actions ask signed) value }
 {
     let last = m.visible(ask.key, ask.at).last;
     Misfit {
@@ -126,7 +120,8 @@ fn refusal(m: &Moments, s: &Stores, ask: LoadAsk, signed: bool, value: u64) -> M
 fn found_at(m: &Moments, s: &Stores, k: u32, ask: LoadAsk) -> u64
     requires within { k ≤ length m.now.writes }
     requires place { IsTrue (is_load_place ask) }
-    ensures { (actions : List Action) → StandsFor s.now actions → result ≡ found_value m.now.image m.now.writes actions ask k ask.width ask.addr }
+    ensures { (actions : List Action) → StandsFor s.now actions
+        → result ≡ found_value m.now.image m.now.writes actions ask k ask.width ask.addr }
 {
     let mut found = 0;
     for i in 0..ask.width {
@@ -138,8 +133,8 @@ fn found_at(m: &Moments, s: &Stores, k: u32, ask: LoadAsk) -> u64
 
 fn byte_at(m: &Moments, s: &Stores, k: u32, ask: LoadAsk, addr: u64) -> u8
     requires within { k ≤ length m.now.writes }
-    requires in_ram { 0x8000_0000 ≤ addr }
-    requires before_end { addr < 0x8400_0000 }
+    requires in_ram { RAM_START ≤ addr }
+    requires before_end { addr < RAM_END }
     ensures { (actions : List Action) → StandsFor s.now actions → result ≡ found_byte m.now.image m.now.writes actions ask k addr }
 {
     match s.forward(addr, ask.at) {

@@ -7,7 +7,7 @@ use Rattle.dt_record.specs.Keys.{records_of}
 use Rattle.dt_record.specs.Streams.{Progress}
 use Rattle.dt_record.specs.Writes.{writes_of}
 use Rattle.dt_rules.specs.declared.misfits.Misfit.{Misfit}
-use Rattle.dt_loads.specs.declared.reading.Passed.{Passed}
+use Rattle.dt_rules.specs.declared.misfits.Passed.{Passed}
 use Rattle.dt_judge.specs.Runs.{RunsTo}
 use Rattle.dt_verdict.specs.declared.answers.Checked.{Checked}
 use Rattle.dt_runs.specs.Noting.{failure_after, notes_from}

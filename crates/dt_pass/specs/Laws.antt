@@ -3,7 +3,7 @@ use Rattle.dt_record.specs.declared.records.Record.{Record}
 use Rattle.dt_record.specs.Keys.{key_of, key_below, records_of}
 use Rattle.dt_record.specs.Writes.{writes_of}
 use Rattle.dt_rules.specs.declared.misfits.Misfit.{Misfit}
-use Rattle.dt_loads.specs.declared.reading.Passed.{Passed}
+use Rattle.dt_rules.specs.declared.misfits.Passed.{Passed}
 use Rattle.dt_judge.specs.Runs.{RunsTo}
 use Rattle.dt_verdict.specs.declared.answers.Checked.{Checked}
 use Rattle.dt_verdict.specs.declared.verdicts.Failure.{Failure}

@@ -13,6 +13,6 @@ mod traps;
 
 pub use adopted::{counter, device, pending};
 pub use dt_record::{Letters, Reason};
-pub use misfits::{Misfit, NO_LETTERS, NO_NUMBER, NO_SOURCES, none_left, same_bytes};
+pub use misfits::{Misfit, NO_LETTERS, NO_NUMBER, NO_SOURCES, Passed, none_left, same_bytes};
 pub use reservations::sc_live;
 pub use traps::{interrupt, tval};

@@ -12,6 +12,14 @@ pub struct Misfit {
     pub found: u64,
 }
 
+/// What is told of a record that is allowed: the letters of the rules that settled it, and where the
+/// bytes come from that it read from RAM.
+#[derive(Clone, Copy, Debug, PartialEq, Eq)]
+pub struct Passed {
+    pub letters: Letters,
+    pub sources: Sources,
+}
+
 /// What stands in a misfit in the place of a number that there is not. This project's own.
 pub const NO_NUMBER: u64 = 0xffff_ffff_ffff_ffff;
 

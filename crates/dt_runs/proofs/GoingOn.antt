@@ -12,7 +12,7 @@ use Rattle.dt_record.specs.Keys.{key_of}
 use Rattle.dt_record.specs.Lawful.{is_lawful}
 use Rattle.dt_versions.specs.History.{History}
 use Rattle.dt_rules.specs.declared.misfits.Misfit.{Misfit}
-use Rattle.dt_loads.specs.declared.reading.Passed.{Passed}
+use Rattle.dt_rules.specs.declared.misfits.Passed.{Passed}
 use Rattle.dt_reference.specs.HartActions.{action_of, actions_of}
 use Rattle.dt_record.specs.LoadSources.{AreLeastSources}
 use Rattle.dt_sources.specs.Choice.{with_moment}

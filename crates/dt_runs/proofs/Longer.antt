@@ -8,7 +8,7 @@ use Rattle.dt_record.specs.declared.records.Record.{Record}
 use Rattle.dt_record.specs.declared.writes.Write.{Write}
 use Rattle.dt_record.specs.Actions.{Action}
 use Rattle.dt_record.specs.Keys.{key_of}
-use Rattle.dt_loads.specs.declared.reading.Passed.{Passed}
+use Rattle.dt_rules.specs.declared.misfits.Passed.{Passed}
 use Rattle.dt_reference.specs.HartActions.{action_of, actions_from, actions_of}
 use Rattle.dt_record.specs.LoadSources.{AreLeastSources}
 use Rattle.dt_judge.specs.Judgement.{Finds}

@@ -5,7 +5,7 @@ use Rattle.dt_record.specs.Keys.{records_of}
 use Rattle.dt_record.specs.Writes.{writes_of}
 use Rattle.dt_writes.specs.FileRecords.{AreFileRecords}
 use Rattle.dt_rules.specs.declared.misfits.Misfit.{Misfit}
-use Rattle.dt_loads.specs.declared.reading.Passed.{Passed}
+use Rattle.dt_rules.specs.declared.misfits.Passed.{Passed}
 use Rattle.dt_judge.specs.Runs.{RunsTo}
 use Rattle.dt_runs.specs.Noting.{failure_after, notes_from}
 use Rattle.dt_runs.specs.RunView.{RunView}

@@ -3,7 +3,7 @@ use Rattle.dt_record.specs.declared.keys.Key.{Key}
 use Rattle.dt_record.specs.declared.records.Record.{Record}
 use Rattle.dt_record.specs.Keys.{key_of}
 use Rattle.dt_rules.specs.declared.misfits.Misfit.{Misfit}
-use Rattle.dt_loads.specs.declared.reading.Passed.{Passed}
+use Rattle.dt_rules.specs.declared.misfits.Passed.{Passed}
 use Rattle.dt_tallies.specs.Naming.{is_named}
 use Rattle.dt_verdict.specs.declared.tallies.Noted.{Noted}
 use Rattle.dt_verdict.specs.declared.verdicts.Failure.{Failure}

@@ -7,7 +7,7 @@ use Rattle.dt_record.specs.Lawful.{is_lawful}
 use Rattle.dt_versions.specs.History.{History, are_in_order}
 use Rattle.dt_writes.specs.OwnWrites.{own_writes_from}
 use Rattle.dt_rules.specs.declared.misfits.Misfit.{Misfit}
-use Rattle.dt_loads.specs.declared.reading.Passed.{Passed}
+use Rattle.dt_rules.specs.declared.misfits.Passed.{Passed}
 use Rattle.dt_hart.specs.HartView.{HartView}
 use Rattle.dt_hart.specs.OwnWrites.{are_of, are_rising}
 use Rattle.dt_hart.specs.Settings.{Setting}
@@ -38,7 +38,8 @@ pub record HoldsUntil (held : List Write) (stamp : ℕ) (writes : List Write) : 
   pub after : IsTrue (are_later stamp later)
 
 -- what a record after these records of a hart is judged against
-abbrev pub setting_after : (image : List ℕ) (writes : List Write) (wide : Bool) (hart : ℕ) (records : List Record) (moments : ℕ → ℕ) → Setting
+abbrev pub setting_after : (image : List ℕ) (writes : List Write) (wide : Bool) (hart : ℕ) (records : List Record)
+    (moments : ℕ → ℕ) → Setting
 setting_after image writes wide hart records moments = record {
   image = image;
   writes = writes;
@@ -49,7 +50,8 @@ setting_after image writes wide hart records moments = record {
 }
 
 -- The last of a hart's records, behind so many allowed ones, is not allowed, and this is its failure.
-pub record LastFails (image : List ℕ) (writes : List Write) (wide : Bool) (hart : ℕ) (records : List Record) (moments : ℕ → ℕ) (count : ℕ) (f : Failure) : Type 0 where
+pub record LastFails (image : List ℕ) (writes : List Write) (wide : Bool) (hart : ℕ) (records : List Record) (moments : ℕ → ℕ)
+    (count : ℕ) (f : Failure) : Type 0 where
   pub misfit : Misfit
   pub own : Record
   pub there : slice_get records count ≡ Some own
@@ -59,15 +61,18 @@ pub record LastFails (image : List ℕ) (writes : List Write) (wide : Bool) (har
 
 -- How a run over these records ends, so many of which are allowed: all are, or the last one is not. What is kept of the
 -- hart stands for the allowed ones.
-abbrev pub EndsWith : (h : HartView) (image : List ℕ) (writes : List Write) (wide : Bool) (records : List Record) (moments : ℕ → ℕ) (count : ℕ) → Option Failure → Type 0
+abbrev pub EndsWith : (h : HartView) (image : List ℕ) (writes : List Write) (wide : Bool) (records : List Record)
+    (moments : ℕ → ℕ) (count : ℕ) → Option Failure → Type 0
 EndsWith h image writes wide records moments count None =
     (count ≡ length records) × StandsFor h (setting_after image writes wide h.arch.hart records moments)
 EndsWith h image writes wide records moments count (Some f) =
-    LastFails image writes wide h.arch.hart records moments count f × StandsFor h (setting_at image writes wide h.arch.hart records moments count)
+    LastFails image writes wide h.arch.hart records moments count f
+    × StandsFor h (setting_at image writes wide h.arch.hart records moments count)
 
 -- A run over these records of its hart behind earlier ones, with this image and these writes: they are allowed up to the
 -- end, or up to the last one, which is the failure. What a report says of the allowed ones behind the earlier is noted.
-pub record RunsBehind (earlier : List Record) (v : RunView) (image : List ℕ) (writes : List Write) (wide : Bool) (records : List Record) : Type 0 where
+pub record RunsBehind (earlier : List Record) (v : RunView) (image : List ℕ) (writes : List Write) (wide : Bool)
+    (records : List Record) : Type 0 where
   pub allowed : List Passed
   pub moments : ℕ → ℕ
   pub are_allowed : AreAllowed image writes wide v.hart.arch.hart (earlier ++ records) moments allowed

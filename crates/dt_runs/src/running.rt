@@ -1,12 +1,14 @@
 ghost use Rattle.std.specs.Prelude.{◌≡◌, ℕ, ◌+◌, ◌<◌, ◌≤◌, Option, None, is_some, List, [], OnOk, OnErr, IfNone, IfSome};
+ghost use Rattle.dt_record.specs.declared.limits.TheConstants.{RECORD_LIMIT};
 ghost use Rattle.dt_record.specs.declared.writes.Write.{Write};
 ghost use Rattle.dt_record.specs.Lawful.{IsLawful};
+ghost use Rattle.dt_record.specs.Lent.{record_of};
 ghost use Rattle.dt_runs.specs.RunView.{outcome_in};
 ghost use Rattle.dt_runs.specs.Runs.{Runs, RunsOn};
 
 use crate::steps::step;
 use dt_judge::{Hart, earlier_moments_decide};
-use dt_record::Record;
+use dt_record::{Record, RecordAt};
 use dt_verdict::{Failure, Noted, Outcome};
 use dt_versions::Moments;
 use std::alloc::{AllocError, Global};
@@ -79,9 +81,26 @@ impl HartRun {
         requires lawful { IsLawful event.now }
         requires its { event.now.hart ≡ self.old.hart.arch.hart }
         requires in_time { self.old.hart.stamp ≤ event.now.stamp }
-        requires room { self.old.hart.seq < 4194304 }
+        requires room { self.old.hart.seq < RECORD_LIMIT }
         requires goes_on { self.old.failure ≡ None }
         ensures runs { OnOk result (RunsOn self.old self.new m.now event.now) }
+        ensures counted { OnOk result (IfNone self.new.failure (self.new.hart.seq ≡ self.old.hart.seq + 1)) }
+        ensures stamp { OnOk result (IfNone self.new.failure (self.new.hart.stamp ≡ event.now.stamp)) }
+        ensures stays { OnOk result (IfSome self.new.failure (λ f. self.new.hart ≡ self.old.hart)) }
+        ensures number { self.new.hart.arch.hart ≡ self.old.hart.arch.hart }
+        ensures unchanged { OnErr result (self.new ≡ self.old) }
+    {
+        self.judge_at(m, &event.lent())
+    }
+
+    /// The same of a record whose long fields are lent.
+    pub fn judge_at(&mut self, m: &Moments, event: &RecordAt<'_>) -> Result<(), AllocError>
+        requires lawful { IsLawful (record_of event.now) }
+        requires its { event.now.hart ≡ self.old.hart.arch.hart }
+        requires in_time { self.old.hart.stamp ≤ event.now.stamp }
+        requires room { self.old.hart.seq < RECORD_LIMIT }
+        requires goes_on { self.old.failure ≡ None }
+        ensures runs { OnOk result (RunsOn self.old self.new m.now (record_of event.now)) }
         ensures counted { OnOk result (IfNone self.new.failure (self.new.hart.seq ≡ self.old.hart.seq + 1)) }
         ensures stamp { OnOk result (IfNone self.new.failure (self.new.hart.stamp ≡ event.now.stamp)) }
         ensures stays { OnOk result (IfSome self.new.failure (λ f. self.new.hart ≡ self.old.hart)) }

@@ -1,10 +1,12 @@
 ghost use Rattle.std.specs.Prelude.{◌≡◌, ◌≤◌, ◌<◌, ◌++◌, IfOk, OnErr, vec_len, vec_capacity};
+ghost use Rattle.dt_record.specs.declared.limits.TheConstants.{RECORD_LIMIT};
 ghost use Rattle.dt_record.specs.Lawful.{IsLawful};
+ghost use Rattle.dt_record.specs.Lent.{record_of};
 ghost use Rattle.dt_runs.specs.Noting.{note_of};
 ghost use Rattle.dt_runs.specs.Stepping.{IsStep};
 
-use dt_judge::{Hart, Judged, judge};
-use dt_record::{Key, Letters, Record, Sources};
+use dt_judge::{Hart, Judged, judge_at};
+use dt_record::{Key, Letters, RecordAt, Sources};
 use dt_tallies::is_named;
 use dt_verdict::{Failure, Noted};
 use dt_versions::Moments;
@@ -15,14 +17,14 @@ use std::alloc::AllocError;
 pub fn step(
     hart: &mut Hart,
     m: &Moments,
-    event: &Record,
+    event: &RecordAt<'_>,
     notes: &mut Vec<Noted>,
 ) -> Result<Option<Failure>, AllocError>
-    requires lawful { IsLawful event.now }
+    requires lawful { IsLawful (record_of event.now) }
     requires its { event.now.hart ≡ hart.old.arch.hart }
     requires in_time { hart.old.stamp ≤ event.now.stamp }
-    requires room { hart.old.seq < 4194304 }
-    ensures step { IfOk result (λ failure. IsStep hart.old hart.new m.now event.now notes.old.items notes.new.items failure) }
+    requires room { hart.old.seq < RECORD_LIMIT }
+    ensures step { IfOk result (λ failure. IsStep hart.old hart.new m.now (record_of event.now) notes.old.items notes.new.items failure) }
     ensures same_hart { OnErr result (hart.new ≡ hart.old) }
     ensures same_notes { OnErr result (notes.new.items ≡ notes.old.items) }
 {
@@ -32,7 +34,7 @@ pub fn step(
         hart: event.hart,
         seq: hart.seq(),
     };
-    match judge(hart, m, event) {
+    match judge_at(hart, m, event) {
         Judged::Fine { letters, sources } => {
             note(notes, key, letters, sources);
             Ok(None)

@@ -1,6 +1,6 @@
 use crate::{HartRun, file_records_are_own, runs_come_to_an_end};
 use dt_record::{
-    Body, Image, Key, Letters, Origin, Reason, Record, Retire, Sources, Write, lawful,
+    Body, Image, Key, Letters, Origin, RECORD_LIMIT, Reason, Record, Retire, Sources, Write, lawful,
 };
 use dt_verdict::{Failure, Noted, Outcome};
 use dt_versions::Moments;
@@ -42,7 +42,7 @@ fn judge(
         body,
     };
     assert!(rt; lawful(&event));
-    assert!(rt; run.stamp() <= stamp && run.seq() < 4_194_304);
+    assert!(rt; run.stamp() <= stamp && run.seq() < RECORD_LIMIT);
     assert!(rt; !run.has_failed());
     run.judge(m, &event)
 }

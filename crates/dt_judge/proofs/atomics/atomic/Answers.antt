@@ -1,5 +1,5 @@
 use Rattle.std.proofs.Common.{ℕ, List, sym}
-use Rattle.dt_loads.specs.declared.reading.Passed.{Passed}
+use Rattle.dt_rules.specs.declared.misfits.Passed.{Passed}
 use Rattle.dt_record.specs.declared.records.Body.TheVariants as body
 use Rattle.dt_record.specs.Actions.{Action}
 use Rattle.dt_reference.specs.HartActions.{body_action}

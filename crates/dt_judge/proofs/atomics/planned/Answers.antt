@@ -2,7 +2,7 @@ use Rattle.std.proofs.Common.{ℕ, ◌≡◌, ◌||◌, Bool, true, List, sym, a
 use Rattle.std.specs.Prelude.{IfOk}
 use Rattle.dt_access.specs.Translating.{walk_args}
 use Rattle.dt_checks.specs.Addresses.{address_check}
-use Rattle.dt_loads.specs.declared.reading.Passed.{Passed}
+use Rattle.dt_rules.specs.declared.misfits.Passed.{Passed}
 use Rattle.dt_record.specs.Actions.{Action}
 use Rattle.dt_step.specs.declared.plans.Planned.{Planned}
 use Rattle.dt_walk.specs.declared.arguments.Access.{Access}

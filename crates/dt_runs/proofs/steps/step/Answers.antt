@@ -1,7 +1,8 @@
 use Rattle.std.proofs.Common.{List, ◌++◌, ap, ◌∙◌}
 use Rattle.dt_record.specs.Keys.{key_of}
+use Rattle.dt_record.specs.Lent.{record_of}
 use Rattle.dt_rules.specs.declared.misfits.Misfit.{Misfit}
-use Rattle.dt_loads.specs.declared.reading.Passed.{Passed}
+use Rattle.dt_rules.specs.declared.misfits.Passed.{Passed}
 use Rattle.dt_verdict.specs.declared.tallies.Noted.{Noted}
 use Rattle.dt_runs.specs.Noting.{failure_at, note_of}
 use Rattle.dt_runs.proofs.steps.step.Goals as goal
@@ -18,8 +19,8 @@ returns-in-Fine-clause-step c =
         stamp = c.in-Fine.ensures.stamp;
       },
       c.note.ensures
-          ∙ ap (λ (ns : List Noted). ns ++ note_of (key_of c.seq.result c.args.event.now) p) c.reserve.ensures.items
-          ∙ ap (λ n. c.args.notes.now.items ++ note_of (key_of n c.args.event.now) p) c.seq.ensures,
+          ∙ ap (λ (ns : List Noted). ns ++ note_of (key_of c.seq.result (record_of c.args.event.now)) p) c.reserve.ensures.items
+          ∙ ap (λ n. c.args.notes.now.items ++ note_of (key_of n (record_of c.args.event.now)) p) c.seq.ensures,
     )
 
 pub returns-in-Fail-clause-step : goal.returns-in-Fail-clause-step
@@ -27,6 +28,6 @@ returns-in-Fail-clause-step c =
     let m : Misfit = record { reason = c.in-Fail.reason; expected = c.in-Fail.expected; found = c.in-Fail.found } in (
       m,
       record { finds = c.in-Fail.ensures.judged; stays = c.in-Fail.ensures.unchanged },
-      ap (λ n. failure_at (key_of n c.args.event.now) m) c.seq.ensures,
+      ap (λ n. failure_at (key_of n (record_of c.args.event.now)) m) c.seq.ensures,
       c.reserve.ensures.items,
     )
