@@ -6,6 +6,7 @@ use Rattle.std.proofs.lemmas.Bool.Decides.{nat_tests}
 use Rattle.std.proofs.lemmas.List.{take-append-le}
 use Rattle.std.proofs.lemmas.List.Elements.{All-contains, Contains-append_cases, Contains-append_left}
 use Rattle.std.proofs.lemmas.List.Sums.{AllPass-from_list_all}
+use Rattle.dt_lists.proofs.Lists.{filter-within}
 use Rattle.dt_rules.specs.declared.misfits.Passed.{Passed}
 use Rattle.dt_record.specs.declared.keys.Key.{Key}
 use Rattle.dt_record.specs.declared.origins.Origin.{Origin}
@@ -48,13 +49,6 @@ any_front p stops [] (y ∷ ys) fails all =
 any_front p stops (x ∷ xs) ys fails all = elim (cases_Bool (p x)) [
   | inl passes ↦ rw passes refl
   | inr stop ↦ rw stop (any_front p stops xs ys fails all)
-]
-
-pub kept_within : {X : Type 0} (p : X → Bool) (xs : List X) → length (filter p xs) ≤ length xs
-kept_within p [] = omega arith
-kept_within p (x ∷ xs) = let rest = kept_within p xs in elim (cases_Bool (p x)) [
-  | inl passes ↦ rw passes (omega arith)
-  | inr stop ↦ rw stop (omega arith)
 ]
 
 ends_false : (a b c d : Bool) → d ≡ false → (a && (b && (c && d))) ≡ false
@@ -149,7 +143,7 @@ module _ (g : AtomicGrounds) (later : List Write) (key : Key) (x : AtomicAccess)
   moment = moment_of g.writes key
 
   within : moment ≤ length g.writes
-  within = kept_within (λ w. key_below w.key key) g.writes
+  within = filter-within (λ w. key_below w.key key) g.writes
 
   at_same : moment_of (g.writes ++ later) key ≡ moment
   at_same = moment_same g.writes later key after

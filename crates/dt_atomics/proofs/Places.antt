@@ -1,6 +1,7 @@
 use Rattle.std.proofs.Common.{ℕ, ◌≡◌, ◌+◌, ◌%◌, ◌==◌, ◌||◌, ◌<◌, ◌≤◌, IsTrue, subst, inl, inr, arith}
 use Rattle.std.proofs.lemmas.Bool.{and_parts}
 use Rattle.std.proofs.lemmas.Bool.Decides.{nat_tests}
+use Rattle.dt_loads.proofs.Lines.{is_zero, in_ram}
 use Rattle.dt_alu.specs.Amo.{IsAmoWidth}
 use Rattle.dt_alu.specs.Extend.{IsAccessWidth}
 use Rattle.dt_record.specs.Lawful.{is_atomic_place, is_in_ram}
@@ -17,12 +18,6 @@ pub record LiesInRam (paddr width : ℕ) : Type 0 where
 
 amo_width : (width : ℕ) → IsTrue ((width == 4) || (width == 8)) → IsAmoWidth width
 amo_width width is = grind (arith, nat_tests)
-
-is_zero : (n : ℕ) → IsTrue (n == 0) → n ≡ 0
-is_zero n is = grind (arith, nat_tests)
-
-in_ram : (addr : ℕ) → IsTrue (is_in_ram addr) → (0x8000_0000 ≤ addr) × (addr < 0x8400_0000)
-in_ram addr is = grind (arith, nat_tests)
 
 some_bytes : (width : ℕ) → IsAmoWidth width → 4 ≤ width
 some_bytes width (inl four) = omega arith

@@ -4,7 +4,7 @@ ghost use Rattle.dt_record.specs.Lawful.{is_atomic_place};
 ghost use Rattle.dt_record.specs.Memory.{line_of, moment_of};
 ghost use Rattle.dt_rules.specs.Reservations.{is_live};
 ghost use Rattle.dt_sources.specs.Knowing.{Knows};
-ghost use Rattle.dt_stores.specs.Standing.{StandsFor};
+ghost use Rattle.dt_stores.specs.Standing.{StoresStand};
 ghost use Rattle.dt_atomics.specs.Answers.{IsAtomicAnswer, atomic_letters};
 ghost use Rattle.dt_atomics.specs.Asking.{has_failed, is_conditional};
 ghost use Rattle.dt_atomics.specs.Grounds.{atomic_grounds};
@@ -38,7 +38,7 @@ pub fn atomic(
     x: AtomicAccess,
 ) -> Result<Passed, Misfit>
     requires place { IsTrue (is_atomic_place x.paddr x.width) }
-    ensures { (actions : List Action) (moments : ℕ → ℕ) → StandsFor s.now actions → Knows l.now m.now.writes actions moments key
+    ensures { (actions : List Action) (moments : ℕ → ℕ) → StoresStand s.now actions → Knows l.now m.now.writes actions moments key
         → IsAtomicAnswer (atomic_grounds m.now actions moments reserved) key x result }
 {
     all_drained(s, key, x)?;

@@ -1,3 +1,3 @@
 mod Histories
 mod Places
-mod Retired
+pub mod Retired

@@ -1,6 +1,7 @@
 -- What holds of a plan that the check of its kind lets through.
 use Rattle.std.proofs.Common.{◌≡◌, ℕ, Bool, true, false, Option, Some, None, Ok, Err, Result, IsSomeAnd, IfOk, IsTrue, refl, sym, ap, subst, eqb-true, arith}
 use Rattle.std.specs.Option.{option_map_or}
+use Rattle.dt_reference.proofs.Retiring.{some_and}
 use Rattle.dt_decode.specs.declared.instructions.Instr.{Instr}
 use Rattle.dt_record.specs.Lawful.{is_instruction}
 use Rattle.dt_reference.specs.Meaning.{meaning_of}
@@ -14,15 +15,11 @@ use Rattle.dt_step.specs.Causes.{due_cause, due_tval}
 use Rattle.dt_step.specs.Plans.{legal_plan, plan_of}
 use Rattle.dt_checks.specs.Retiring.{IsRetired, due_tag, plan_check, raised}
 
-some_and : (o : Option Instr) (i : Instr) (P : Instr → Type 0) → o ≡ Some i → P i → IsSomeAnd o P
-some_and None i P is holds = absurd (let no : None ≡ Some i = is in cc)
-some_and (Some j) i P is holds = grind (arith)
-
-checked : (holds : Bool) (refused : Misfit) (plan p : Planned) → check holds refused (Ok plan) ≡ Ok p → (holds ≡ true) × (plan ≡ p)
+pub checked : (holds : Bool) (refused : Misfit) (plan p : Planned) → check holds refused (Ok plan) ≡ Ok p → (holds ≡ true) × (plan ≡ p)
 checked true refused plan p passed = (refl, let same : plan ≡ p = cc in same)
 checked false refused plan p passed = absurd (let no : Err refused ≡ Ok p = passed in cc)
 
-passed_plan : (plan : Planned) (tag : ℕ) (p : Planned) → plan_check plan tag ≡ Ok p → (plan ≡ p) × (due_tag plan ≡ tag)
+pub passed_plan : (plan : Planned) (tag : ℕ) (p : Planned) → plan_check plan tag ≡ Ok p → (plan ≡ p) × (due_tag plan ≡ tag)
 passed_plan (Raises cause tval) tag p passed = absurd (let no : Err (raised cause) ≡ Ok p = passed in cc)
 passed_plan (Done rd value next) tag p passed = let held = checked _ _ _ p passed in (held.1, eqb-true _ _ held.0)
 passed_plan (NeedsLoad va width signed rd) tag p passed = let held = checked _ _ _ p passed in (held.1, eqb-true _ _ held.0)

@@ -1,5 +1,6 @@
 -- Converted answers are a probe file.
 use Rattle.std.proofs.Common.{◌≡◌, ◌∙◌, ◌+◌, ◌≤◌, ℕ, Bool, true, false, cond, List, [], ◌∷◌, ◌++◌, Some, length, map, filter, refl, sym, ap, subst, append_assoc, arith}
+use Rattle.dt_record.proofs.CountedWrites.{length-cond, length-writing}
 use Rattle.dt_record.specs.declared.records.Record.{Record}
 use Rattle.dt_record.specs.declared.streams.Next.{Next}
 use Rattle.dt_record.specs.declared.streams.Next.TheVariants.{Header, Event, End, Malformed, Limit, ReadFault, OutOfMemory}
@@ -18,17 +19,10 @@ record AreWithin (s : Reading) (bytes : List ℕ) (records : List Record) : Type
   few_records : s.events + length records ≤ 4_194_304
   few_writes : s.writes + length (filter writes_memory records) ≤ 1_048_576
 
-filter_cases : (r : Record) (others : List Record) (t : Bool) → length (cond t (r ∷ others) others) ≡ cond t 1 0 + length others
-filter_cases r others true = omega arith
-filter_cases r others false = omega arith
-
-filter_length : (r : Record) (records : List Record) → length (filter writes_memory (r ∷ records)) ≡ cond (writes_memory r) 1 0 + length (filter writes_memory records)
-filter_length r records = filter_cases r (filter writes_memory records) (writes_memory r)
-
 within_record : (s : Reading) (bytes rest : List ℕ) (r : Record) (records : List Record) → GoesOn s bytes r rest → AreWithin (after_record s r) rest records
     → AreWithin s bytes (r ∷ records)
 within_record s bytes rest r records next w =
-    let writes = filter_length r records in
+    let writes = length-writing r records in
     let writes_are = w.few_writes in
     let records_are = w.few_records in
     let counted : s.events + 1 + length records ≡ s.events + length (r ∷ records) = omega arith in
@@ -135,7 +129,7 @@ gives s bytes [] count w counted =
     let none : s.events + 0 ≡ s.events = omega arith in
     (refl, counted ∙ none, w.spelled ∙ ap end_bytes none)
 gives s bytes (r ∷ records) count w counted =
-    let writes = filter_length r records in
+    let writes = length-writing r records in
     let writes_are = w.few_writes in
     let records_are = w.few_records in
     let n = s.events + length (r ∷ records) in

@@ -6,6 +6,7 @@ use Rattle.std.proofs.lemmas.Bool.{cases_Bool, cond-true, cond-false, both_ways,
 use Rattle.std.proofs.lemmas.List.{append_assoc, append-nil, length-append}
 use Rattle.std.proofs.lemmas.List.Elements.{filter-append, filter_map-append, Contains-append_cases, Contains-push_cases}
 use mathlib.Core.List.{IsPrefix}
+use Rattle.dt_lists.proofs.Lists.{filter-kept, filter-dropped}
 use Rattle.dt_record.specs.declared.keys.Key.{Key}
 use Rattle.dt_record.specs.declared.records.Record.{Record}
 use Rattle.dt_record.specs.declared.records.Body.{Body}
@@ -18,7 +19,7 @@ use Rattle.dt_record.specs.Writes.{body_write, write_of_record, counted, writes_
 use Rattle.dt_core.specs.Notes.{write_in, announced, hart_writes, writes_below}
 use Rattle.dt_record.specs.Marks.{stamp_in, ends, marks_of, mark_of, has_ended, HasMarkAbove}
 use Rattle.dt_core.specs.Sound.{IsAnnounced, writes_by}
-use Rattle.dt_core.proofs.Selection.{filter-pass, filter-drop, filter-narrow, filter-empty}
+use Rattle.dt_core.proofs.Selection.{filter-narrow, filter-empty}
 
 -- What a front of a history holds of one hart.
 
@@ -71,12 +72,12 @@ hart_writes-after hart seqs own (r ∷ rs) same =
           (counted-own seqs r hart mine ∙ ap (λ n. n + 1) same ∙ sym (counted-own own r hart mine)) in
           split ∙ ap (λ ws. ws ++ hart_writes hart (writes_after (counted seqs r) rs)) head
           ∙ ap (λ ws. option_to_list (write_of_record (own r.hart) r) ++ ws) rest
-          ∙ sym (ap (writes_after own) (filter-pass (λ (s : Record). s.hart == hart) r rs mine))
+          ∙ sym (ap (writes_after own) (filter-kept (λ (s : Record). s.hart == hart) r rs mine))
       | inr other ↦
           let head = record-hart hart (seqs r.hart) r ∙ cond-false (r.hart == hart) (option_to_list (write_of_record (seqs r.hart) r)) [] other in
           let rest = hart_writes-after hart (counted seqs r) own rs (counted-other seqs r hart other ∙ same) in
           split ∙ ap (λ ws. ws ++ hart_writes hart (writes_after (counted seqs r) rs)) head ∙ rest
-          ∙ sym (ap (writes_after own) (filter-drop (λ (s : Record). s.hart == hart) r rs other))
+          ∙ sym (ap (writes_after own) (filter-dropped (λ (s : Record). s.hart == hart) r rs other))
     ]
 
 -- records that come first write first

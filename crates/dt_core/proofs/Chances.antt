@@ -7,7 +7,7 @@ use Rattle.dt_record.specs.declared.writes.Note.{Note}
 use Rattle.dt_record.specs.Keys.{key_of}
 use Rattle.dt_record.specs.Writes.{by_key}
 use Rattle.dt_versions.specs.History.{writes_until}
-use Rattle.dt_core.specs.Judgements.{Meaning, AreJudged, failure_from}
+use Rattle.dt_core.specs.Judgements.{Meaning, AreAnswered, failure_from}
 use Rattle.dt_core.specs.Machine.{usable_below, usable, has_failed}
 use Rattle.dt_record.specs.Marks.{mark_of, has_ended, least_with, least_mark, CanJudge, can_judge}
 use Rattle.dt_core.specs.Laws.{BelowMarkMayBeJudged}
@@ -102,7 +102,7 @@ usable-until harts notes stamp can = by_mark (least_mark harts notes) refl
 
 -- more records leave the outcomes as they are
 pub AreJudged-more : {J : Type 0} (m : Meaning J) (writes : List Write) (first : J) (rs more : List Record) (os : List Bool) (last : J)
-    → AreJudged m writes first rs os last → AreJudged m writes first (rs ++ more) os last
+    → AreAnswered m writes first rs os last → AreAnswered m writes first (rs ++ more) os last
 AreJudged-more m writes first rs more [] last are = are
 AreJudged-more m writes first [] more (o ∷ os) last are = absurd are
 AreJudged-more m writes first (r ∷ rs) more (o ∷ os) last are = (are.0, are.1, AreJudged-more m writes (m.after first writes r) rs more os last are.2)
@@ -113,13 +113,13 @@ has_failed-parts false os none = absurd (let never : ⊥ = cc in never)
 
 -- the next record is judged too
 pub AreJudged-next : {J : Type 0} (m : Meaning J) (writes : List Write) (first : J) (rs : List Record) (os : List Bool) (last : J) (r : Record)
-    → has_failed os ≡ false → slice_get rs (length os) ≡ Some r → AreJudged m writes first rs os last
-    → AreJudged m writes first rs (os ++ m.allows last writes r ∷ []) (m.after last writes r)
+    → has_failed os ≡ false → slice_get rs (length os) ≡ Some r → AreAnswered m writes first rs os last
+    → AreAnswered m writes first rs (os ++ m.allows last writes r ∷ []) (m.after last writes r)
 AreJudged-next m writes first [] [] last r good found are = absurd (let never : ⊥ = cc in never)
 AreJudged-next m writes first (q ∷ qs) [] last r good found are =
     let same : q ≡ r = cc in
-    subst (λ (s : _). AreJudged m writes first (q ∷ qs) (m.allows s writes r ∷ []) (m.after s writes r)) (sym are)
-    (subst (λ (t : Record). AreJudged m writes first (q ∷ qs) (m.allows first writes t ∷ []) (m.after first writes t)) same (refl, (λ none. refl), refl))
+    subst (λ (s : _). AreAnswered m writes first (q ∷ qs) (m.allows s writes r ∷ []) (m.after s writes r)) (sym are)
+    (subst (λ (t : Record). AreAnswered m writes first (q ∷ qs) (m.allows first writes t ∷ []) (m.after first writes t)) same (refl, (λ none. refl), refl))
 AreJudged-next m writes first [] (o ∷ os) last r good found are = absurd are
 AreJudged-next m writes first (q ∷ qs) (o ∷ os) last r good found are =
     let parts = has_failed-parts o os good in (
@@ -130,7 +130,7 @@ AreJudged-next m writes first (q ∷ qs) (o ∷ os) last r good found are =
 
 -- where the last outcome is a failure, that is the failure over all records
 pub failure_from-last : {J : Type 0} (m : Meaning J) (writes : List Write) (seq : ℕ) (first : J) (rs : List Record) (os : List Bool) (last : J) (r : Record)
-    → AreJudged m writes first rs os last → has_failed os ≡ true → slice_get rs (length os - 1) ≡ Some r
+    → AreAnswered m writes first rs os last → has_failed os ≡ true → slice_get rs (length os - 1) ≡ Some r
     → failure_from m writes seq first rs ≡ Some (key_of (seq + (length os - 1)) r)
 failure_from-last m writes seq first rs [] last r are failed found = absurd (let never : ⊥ = cc in never)
 failure_from-last m writes seq first [] (o ∷ os) last r are failed found = absurd are

@@ -2,6 +2,7 @@ use Rattle.std.proofs.Common.{ℕ, ◌≡◌, ◌<◌, ◌≤◌, ◌⊎◌, tru
 use Rattle.std.proofs.Common.{lit<, lit≤}
 use Rattle.std.proofs.lemmas.List.{append-nil}
 use mathlib.Core.List.{IsPrefix}
+use Rattle.dt_lists.proofs.Lists.{not_last}
 use Rattle.dt_record.specs.declared.records.Record.{Record}
 use Rattle.dt_record.specs.declared.records.Retire.{Retire}
 use Rattle.dt_record.specs.declared.records.Body.TheVariants.{Atomic, Beat}
@@ -15,7 +16,7 @@ use Rattle.dt_core.specs.Laws.{WritesUntilMarkAreAll, EqualMarkIsEnough}
 use Rattle.dt_record.specs.Marks.{mark_of, has_ended}
 use Rattle.dt_core.specs.Notes.{announced, hart_writes, writes_below}
 use Rattle.dt_core.specs.Sound.{Lists, IsSound, writes_by}
-use Rattle.dt_core.proofs.Places.{push-split, not_last}
+use Rattle.dt_core.proofs.Places.{push-split}
 
 -- One hart has a beat in cycle 5 and then, in the same cycle, a record that writes. Only the beat
 -- was fed, taken and marked.

@@ -1,20 +1,18 @@
 use Rattle.std.proofs.Common.{◌≡◌, ◌==◌, ◌&&◌, Bool, true, false, not, cond, List, [], ◌∷◌, filter, refl, sym, ap, ◌∙◌, inl, inr, eq-eqb}
 use Rattle.std.specs.List.{list_all}
 use Rattle.std.proofs.lemmas.Bool.{and_parts, and_from, cases_Bool, cond-true, cond-false, not-true, not_from_false, both_ways}
+use Rattle.dt_record.proofs.Inserting.{insert-later}
+use Rattle.dt_lists.proofs.Lists.{filter-kept, filter-dropped}
 use Rattle.dt_record.specs.declared.keys.Key.{Key}
 use Rattle.dt_record.specs.declared.writes.Write.{Write}
 use Rattle.dt_record.specs.Keys.{key_below, KeyBelow}
 use Rattle.dt_record.proofs.KeyLaws.{key_below-back, KeyBelow-chain, key_below-cases}
 use Rattle.dt_record.specs.Writes.{insert_write, by_key}
-use Rattle.dt_core.proofs.Selection.{filter-pass, filter-drop}
 
 -- A write that is put among others in the order of keys.
 
 pub insert-first : (w v : Write) (vs : List Write) → KeyBelow w.key v.key → insert_write w (v ∷ vs) ≡ w ∷ v ∷ vs
 insert-first w v vs below = cond-true (key_below w.key v.key) (w ∷ v ∷ vs) (v ∷ insert_write w vs) below
-
-pub insert-later : (w v : Write) (vs : List Write) → key_below w.key v.key ≡ false → insert_write w (v ∷ vs) ≡ v ∷ insert_write w vs
-insert-later w v vs above = cond-false (key_below w.key v.key) (w ∷ v ∷ vs) (v ∷ insert_write w vs) above
 
 -- two writes with different keys may go in in either order
 insert-swap : (a b : Write) (ws : List Write) → KeyBelow a.key b.key → insert_write a (insert_write b ws) ≡ insert_write b (insert_write a ws)
@@ -110,8 +108,8 @@ each-filter p q [] all = refl
 each-filter p q (w ∷ ws) all =
     let parts = and_parts (q w) (list_all q ws) all in
     elim (cases_Bool (p w)) [
-      | inl passes ↦ ap (list_all q) (filter-pass p w ws passes) ∙ and_from (q w) _ parts.0 (each-filter p q ws parts.1)
-      | inr fails ↦ ap (list_all q) (filter-drop p w ws fails) ∙ each-filter p q ws parts.1
+      | inl passes ↦ ap (list_all q) (filter-kept p w ws passes) ∙ and_from (q w) _ parts.0 (each-filter p q ws parts.1)
+      | inr fails ↦ ap (list_all q) (filter-dropped p w ws fails) ∙ each-filter p q ws parts.1
     ]
 
 pub filter-insert : (p : Write → Bool) (w : Write) (ws : List Write) → is_rising ws ≡ true

@@ -1,7 +1,7 @@
 pub mod Announced
 mod Chances
 mod Counterexample
-mod Insertion
+pub mod Insertion
 mod Loops
 mod Places
 mod Reached
@@ -10,5 +10,5 @@ mod Runs
 mod Selection
 mod Sorting
 mod Stamps
-mod Telling
+pub mod Telling
 mod Watermark

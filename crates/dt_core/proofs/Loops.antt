@@ -5,6 +5,7 @@ use Rattle.std.proofs.lemmas.Bool.{cases_Bool, cond-true, cond-false}
 use Rattle.std.proofs.lemmas.List.{append_assoc, append-nil, length-append}
 use Rattle.std.proofs.lemmas.List.Elements.{filter_map-append}
 use Rattle.std.proofs.Math.Seq.{take-suc}
+use Rattle.dt_record.proofs.Inserting.{insert-later}
 use Rattle.dt_record.specs.declared.records.Record.{Record}
 use Rattle.dt_record.specs.declared.writes.Write.{Write}
 use Rattle.dt_record.specs.declared.writes.Note.{Note}
@@ -13,11 +14,11 @@ use Rattle.dt_record.specs.Writes.{insert_write, write_of_record, counted, write
 use Rattle.dt_record.specs.Marks.{stamp_in, marks_of, mark_of}
 use Rattle.dt_core.specs.Marks.{mark_with}
 use Rattle.dt_core.specs.declared.entries.Entry.{Entry}
-use Rattle.dt_core.specs.Machine.{HartState, take_first, take_of, is_mine, news_of, told}
+use Rattle.dt_core.specs.Machine.{HartState, take_first, take_of, is_mine, news_by, told}
 use Rattle.dt_core.specs.Notes.{notes_in, entries_of}
-use Rattle.dt_core.specs.Own.{AreOwn}
+use Rattle.dt_core.specs.Own.{AreOfHart}
 use Rattle.dt_core.specs.Sound.{writes_by}
-use Rattle.dt_core.proofs.Insertion.{insert-first, insert-later}
+use Rattle.dt_core.proofs.Insertion.{insert-first}
 
 -- What a loop needs for one more element.
 
@@ -58,14 +59,14 @@ insert_write-at w (v ∷ vs) = elim (cases_Bool (key_below w.key v.key)) [
       ap (λ k. take k (v ∷ vs) ++ w ∷ drop k (v ∷ vs)) more ∙ ap (λ ws. v ∷ ws) (insert_write-at w vs) ∙ sym (insert-later w v vs later)
 ]
 
-own-first : (hart : ℕ) (r : Record) (rs : List Record) → AreOwn hart (r ∷ rs) → r.hart ≡ hart
+own-first : (hart : ℕ) (r : Record) (rs : List Record) → AreOfHart hart (r ∷ rs) → r.hart ≡ hart
 own-first hart r rs own = (own 0 r refl).1
 
-own-rest : (hart : ℕ) (r : Record) (rs : List Record) → AreOwn hart (r ∷ rs) → AreOwn hart rs
+own-rest : (hart : ℕ) (r : Record) (rs : List Record) → AreOfHart hart (r ∷ rs) → AreOfHart hart rs
 own-rest hart r rs own = λ i q found. own (suc i) q found
 
 -- one more record of the hart has the next number
-writes_after-more : (hart : ℕ) (seqs : ℕ → ℕ) (rs : List Record) (i : ℕ) (d : Record) → AreOwn hart rs → i < length rs
+writes_after-more : (hart : ℕ) (seqs : ℕ → ℕ) (rs : List Record) (i : ℕ) (d : Record) → AreOfHart hart rs → i < length rs
     → writes_after seqs (take (suc i) rs) ≡ writes_after seqs (take i rs) ++ option_to_list (write_of_record (seqs hart + i) (get_or rs i d))
 writes_after-more hart seqs [] i d own within = absurd (omega arith)
 writes_after-more hart seqs (r ∷ rs) zero d own within =
@@ -80,7 +81,7 @@ writes_after-more hart seqs (r ∷ rs) (suc i) d own within =
     ∙ sym (append_assoc first (writes_after (counted seqs r) (take i rs)) (option_to_list (write_of_record (counted seqs r hart + i) (get_or rs i d))))
     ∙ ap (λ n. (first ++ writes_after (counted seqs r) (take i rs)) ++ option_to_list (write_of_record n (get_or rs i d))) number
 
-pub writes_by-more : (hart : ℕ) (rs : List Record) (i : ℕ) (d : Record) → AreOwn hart rs → i < length rs
+pub writes_by-more : (hart : ℕ) (rs : List Record) (i : ℕ) (d : Record) → AreOfHart hart rs → i < length rs
     → writes_by (take (i + 1) rs) ≡ writes_by (take i rs) ++ option_to_list (write_of_record i (get_or rs i d))
 writes_by-more hart rs i d own within =
     ap (λ n. writes_by (take n rs)) (let more : i + 1 ≡ suc i = omega arith in more)
@@ -92,7 +93,7 @@ pub mark_of-step : (hart : ℕ) (notes : List Note) (i : ℕ) (d : Note) (mark n
 mark_of-step hart notes i d mark next within was is =
     is ∙ ap (λ m. mark_with m (stamp_in hart (get_or notes i d))) was ∙ sym (mark_of-more hart notes i d within)
 
-pub writes_by-step : (hart : ℕ) (rs : List Record) (i : ℕ) (d : Record) (ws next : List Write) (o : Option Write) → AreOwn hart rs → i < length rs
+pub writes_by-step : (hart : ℕ) (rs : List Record) (i : ℕ) (d : Record) (ws next : List Write) (o : Option Write) → AreOfHart hart rs → i < length rs
     → ws ≡ writes_by (take i rs) → o ≡ write_of_record i (get_or rs i d) → next ≡ ws ++ option_to_list o → next ≡ writes_by (take (i + 1) rs)
 writes_by-step hart rs i d ws next o own within was made is =
     is ∙ ap (λ vs. vs ++ option_to_list o) was ∙ ap (λ v. writes_by (take i rs) ++ option_to_list v) made ∙ sym (writes_by-more hart rs i d own within)
@@ -110,7 +111,7 @@ drop-at (y ∷ ys) (suc i) x found = drop-at ys i x found
 -- one hart less is left to be told of
 pub told-next : {J : Type 0} (workers worker : ℕ) (is_ended : Bool) (harts : List (HartState J)) (i : ℕ) (s : HartState J) (all next total : List Entry)
     → slice_get harts i ≡ Some s
-    → next ≡ (if is_mine workers worker i then all ++ entries_of worker (news_of is_ended i s (notes_in all)) else all)
+    → next ≡ (if is_mine workers worker i then all ++ entries_of worker (news_by is_ended i s (notes_in all)) else all)
     → told workers worker is_ended i (drop i harts) all ≡ total → told workers worker is_ended (i + 1) (drop (i + 1) harts) next ≡ total
 told-next workers worker is_ended harts i s all next total found is was =
     let more : i + 1 ≡ suc i = omega arith in

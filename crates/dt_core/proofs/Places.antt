@@ -1,7 +1,7 @@
 use Rattle.std.proofs.Common.{ℕ, ◌≡◌, ◌+◌, ◌<◌, ◌≤◌, ◌⊎◌, Bool, true, Some, None, List, [], ◌∷◌, ◌++◌, length, take, drop, filter, set, zero, suc, refl, sym, ap, ◌∙◌, inl, inr, arith}
 use Rattle.std.specs.List.{slice_get, list_all}
 use Rattle.std.proofs.lemmas.Bool.{and_parts, and_from, cases_Bool}
-use Rattle.dt_core.proofs.Selection.{filter-pass, filter-drop}
+use Rattle.dt_lists.proofs.Lists.{filter-kept, filter-dropped, not_last}
 
 -- Elements of lists by their places.
 
@@ -21,11 +21,6 @@ pub slice_get-push : {X : Type 0} (xs : List X) (y : X) → slice_get (xs ++ y �
 slice_get-push [] y = refl
 slice_get-push (x ∷ xs) y = slice_get-push xs y
 
-pub slice_get-front : {X : Type 0} (xs ys : List X) (i : ℕ) → i < length xs → slice_get (xs ++ ys) i ≡ slice_get xs i
-slice_get-front [] ys i within = absurd (omega arith)
-slice_get-front (x ∷ xs) ys zero within = refl
-slice_get-front (x ∷ xs) ys (suc i) within = slice_get-front xs ys i (omega arith)
-
 pub slice_get-inside : {X : Type 0} (xs : List X) (i : ℕ) → i < length xs → (x : X) × (slice_get xs i ≡ Some x)
 slice_get-inside [] i within = absurd (omega arith)
 slice_get-inside (x ∷ xs) zero within = (x, refl)
@@ -38,11 +33,6 @@ take-next (y ∷ ys) zero x found = let same : y ≡ x = cc in ap (λ z. z ∷ [
 take-next (y ∷ ys) (suc i) x found =
     let more : suc i + 1 ≡ suc (i + 1) = omega arith in
     ap (λ n. take n (y ∷ ys)) more ∙ ap (λ zs. y ∷ zs) (take-next ys i x found)
-
-pub past_end : {X : Type 0} (xs : List X) (i : ℕ) → slice_get xs i ≡ None → length xs ≤ i
-past_end [] i none = omega arith
-past_end (x ∷ xs) zero none = absurd (let never : ⊥ = cc in never)
-past_end (x ∷ xs) (suc i) none = let rest = past_end xs i none in omega arith
 
 pub within_get : {X : Type 0} (xs : List X) (i : ℕ) (x : X) → slice_get xs i ≡ Some x → i < length xs
 within_get [] i x found = absurd (let never : ⊥ = cc in never)
@@ -58,8 +48,8 @@ drop-front (x ∷ xs) ys (z ∷ zs) is = let rest : xs ++ ys ≡ zs = cc in drop
 pub all_filter : {X : Type 0} (p : X → Bool) (xs : List X) → list_all p (filter p xs) ≡ true
 all_filter p [] = refl
 all_filter p (x ∷ xs) = elim (cases_Bool (p x)) [
-  | inl passes ↦ ap (list_all p) (filter-pass p x xs passes) ∙ and_from (p x) (list_all p (filter p xs)) passes (all_filter p xs)
-  | inr fails ↦ ap (list_all p) (filter-drop p x xs fails) ∙ all_filter p xs
+  | inl passes ↦ ap (list_all p) (filter-kept p x xs passes) ∙ and_from (p x) (list_all p (filter p xs)) passes (all_filter p xs)
+  | inr fails ↦ ap (list_all p) (filter-dropped p x xs fails) ∙ all_filter p xs
 ]
 
 pub all_front : {X : Type 0} (p : X → Bool) (xs ys : List X) → list_all p (xs ++ ys) ≡ true → list_all p xs ≡ true
@@ -68,25 +58,10 @@ all_front p (x ∷ xs) ys all =
     let parts = and_parts (p x) (list_all p (xs ++ ys)) all in
     and_from (p x) (list_all p xs) parts.0 (all_front p xs ys parts.1)
 
-pub all_drop : {X : Type 0} (p : X → Bool) (n : ℕ) (xs : List X) → list_all p xs ≡ true → list_all p (drop n xs) ≡ true
-all_drop p zero xs all = all
-all_drop p (suc n) [] all = refl
-all_drop p (suc n) (x ∷ xs) all = all_drop p n xs (and_parts (p x) (list_all p xs) all).1
-
-pub all_kept : {X : Type 0} (p : X → Bool) (xs : List X) → list_all p xs ≡ true → filter p xs ≡ xs
-all_kept p [] all = refl
-all_kept p (x ∷ xs) all =
-    let parts = and_parts (p x) (list_all p xs) all in
-    filter-pass p x xs parts.0 ∙ ap (λ ys. x ∷ ys) (all_kept p xs parts.1)
-
 -- one more at the end of a list stands there, or what stands elsewhere stood before
 pub record StoodBefore {X : Type 0} (xs before : List X) (y : X) : Type 0 where
   pub after : List X
   pub split : xs ≡ before ++ y ∷ after
-
-pub not_last : {X : Type 0} (bs after : List X) (y : X) → [] ≡ bs ++ y ∷ after → ⊥
-not_last [] after y e = cc
-not_last (b ∷ bs) after y e = cc
 
 pub push-split : {X : Type 0} (xs before after : List X) (x y : X) → xs ++ x ∷ [] ≡ before ++ y ∷ after → ((xs ≡ before) × (x ≡ y)) ⊎ StoodBefore xs before y
 push-split [] [] after x y is = inl (refl, cc)

@@ -3,6 +3,7 @@ use Rattle.std.specs.List.{slice_get, list_all}
 use Rattle.std.proofs.lemmas.Bool.{and_parts, and_from, cases_Bool}
 use Rattle.std.proofs.lemmas.List.{length-append, length-set, length-replicate, length-take}
 use Rattle.std.proofs.lemmas.List.Sums.{length-filter, count_by-le-length}
+use Rattle.dt_lists.proofs.Lists.{filter-kept, filter-dropped, list_all-get}
 use Rattle.dt_record.specs.declared.limits.TheConstants.{HART_LIMIT, RECORD_LIMIT}
 use Rattle.dt_record.specs.declared.records.Record.{Record}
 use Rattle.dt_record.specs.declared.writes.Write.{Write}
@@ -12,7 +13,7 @@ use Rattle.dt_record.specs.Lawful.{is_lawful}
 use Rattle.dt_record.specs.ProbeFile.{AreRecords, no_stamps, stamped}
 use Rattle.dt_core.specs.declared.steps.CoreStep.{CoreStep}
 use Rattle.dt_core.specs.declared.steps.CoreStep.TheVariants.{Feed, Take, Announce, Look, Judge}
-use Rattle.dt_core.specs.Judgements.{Meaning, ReadsNoLaterWrites, AreJudged}
+use Rattle.dt_core.specs.Judgements.{Meaning, ReadsNoLaterWrites, AreAnswered}
 use Rattle.dt_core.specs.Machine.{HartState, CoreState, with_hart, feed_next, told, is_true, seen_notes, usable, next_record, judged, judge_next, judge_of, step_state, run_steps, opening_state}
 use Rattle.dt_record.specs.Marks.{can_judge}
 use Rattle.dt_core.specs.Notes.{entries_of}
@@ -20,7 +21,6 @@ use Rattle.dt_core.specs.Own.{IsSafe}
 use Rattle.dt_core.specs.Runs.{taken_in, queue_in, HoldsAfter, IsReached}
 use Rattle.dt_core.proofs.Places.{all_front}
 use Rattle.dt_core.proofs.Runs.{IsKept, IsKept-opening, IsKept-run, HoldsAfter-kept}
-use Rattle.dt_core.proofs.Selection.{filter-pass, filter-drop}
 
 -- What the code may rely on in a state that steps have led to.
 
@@ -119,17 +119,12 @@ all_own harts hart (suc n) last (r ∷ rs) each =
     let rest = all_own harts hart n (stamped last r) rs each.1 in
     elim (cases_Bool (r.hart == hart)) [
       | inl own ↦
-          ap (list_all (is_own hart)) (filter-pass (λ (s : Record). s.hart == hart) r (take n rs) own)
+          ap (list_all (is_own hart)) (filter-kept (λ (s : Record). s.hart == hart) r (take n rs) own)
           ∙ and_from (is_own hart r) _ (and_from (is_lawful r) (r.hart == hart) each.0.lawful own) rest
-      | inr other ↦ ap (list_all (is_own hart)) (filter-drop (λ (s : Record). s.hart == hart) r (take n rs) other) ∙ rest
+      | inr other ↦ ap (list_all (is_own hart)) (filter-dropped (λ (s : Record). s.hart == hart) r (take n rs) other) ∙ rest
     ]
 
-all_get : {X : Type 0} (p : X → Bool) (xs : List X) (i : ℕ) (x : X) → list_all p xs ≡ true → slice_get xs i ≡ Some x → p x ≡ true
-all_get p [] i x all found = absurd (let never : ⊥ = cc in never)
-all_get p (y ∷ ys) zero x all found = let same : y ≡ x = cc in ap p (sym same) ∙ (and_parts (p y) (list_all p ys) all).0
-all_get p (y ∷ ys) (suc i) x all found = all_get p ys i x (and_parts (p y) (list_all p ys) all).1 found
-
-judged_few : {J : Type 0} (m : Meaning J) (writes : List Write) (first : J) (rs : List Record) (os : List Bool) (last : J) → AreJudged m writes first rs os last → length os ≤ length rs
+judged_few : {J : Type 0} (m : Meaning J) (writes : List Write) (first : J) (rs : List Record) (os : List Bool) (last : J) → AreAnswered m writes first rs os last → length os ≤ length rs
 judged_few m writes first rs [] last are = omega arith
 judged_few m writes first [] (o ∷ os) last are = absurd are
 judged_few m writes first (r ∷ rs) (o ∷ os) last are = let rest = judged_few m writes (m.after first writes r) rs os last are.2 in omega arith
@@ -158,7 +153,7 @@ IsReached-safe m c law reached =
         own = λ hart s found i r at.
             let whole : s.taken ++ s.queue ≡ records_of hart (take c.fed reached.file) = ap (λ o. taken_in o ++ queue_in o) (sym found) ∙ kept.kept hart in
             let all = all_front (is_own hart) s.taken s.queue (ap (list_all (is_own hart)) whole ∙ all_own reached.harts hart c.fed no_stamps reached.file reached.each) in
-            let one = and_parts (is_lawful r) (r.hart == hart) (all_get (is_own hart) s.taken i r all at) in
+            let one = and_parts (is_lawful r) (r.hart == hart) (list_all-get (is_own hart) s.taken i r all at) in
             (one.0, eqb-true r.hart hart one.1);
         few = λ hart s found. few_taken m c hart s law reached found;
       };

@@ -4,6 +4,7 @@ use Rattle.std.specs.List.{slice_get, list_all}
 use Rattle.std.proofs.lemmas.List.{append_assoc, append-nil, take_all, take-append-drop}
 use Rattle.std.proofs.lemmas.List.Elements.{filter-append}
 use mathlib.Core.List.{IsPrefix}
+use Rattle.dt_lists.proofs.Lists.{list_all-drop}
 use Rattle.dt_record.specs.declared.keys.Key.{Key}
 use Rattle.dt_record.specs.declared.records.Record.{Record}
 use Rattle.dt_record.specs.declared.writes.Write.{Write}
@@ -13,9 +14,9 @@ use Rattle.dt_record.specs.Keys.{records_of}
 use Rattle.dt_record.specs.ProbeFile.{AreRecords, no_stamps}
 use Rattle.dt_record.specs.Writes.{no_records}
 use Rattle.dt_core.specs.Notes.{announced, hart_writes, writes_below}
-use Rattle.dt_core.specs.Machine.{reach_of, new_writes}
+use Rattle.dt_core.specs.Machine.{reach_by, new_writes}
 use Rattle.dt_core.specs.Sound.{writes_by}
-use Rattle.dt_core.proofs.Places.{all_filter, all_front, all_drop, drop-front}
+use Rattle.dt_core.proofs.Places.{all_filter, all_front, drop-front}
 use Rattle.dt_core.proofs.Stamps.{Rises, Rises-records_of, later_stamps, same_below, own_writes}
 use Rattle.dt_core.proofs.Telling.{IsTold, IsTold-push, IsTold-writes, MayFollow}
 
@@ -53,7 +54,7 @@ IsTold-mark harts file fed is_ended hart known_taken queue taken fails notes (So
 IsTold-reach : (harts : ℕ) (file : List Record) (fed : ℕ) (is_ended : Bool) (hart : ℕ) (known_taken queue : List Record)
     (taken : ℕ → List Record) (fails : Key → Type 0) (notes : List Note)
     → IsKnown harts file fed is_ended hart known_taken queue → hart_writes hart (announced notes) ≡ writes_by known_taken
-    → IsTold file taken fails notes → IsTold file taken fails (notes ++ reach_of is_ended hart queue known_taken)
+    → IsTold file taken fails notes → IsTold file taken fails (notes ++ reach_by is_ended hart queue known_taken)
 IsTold-reach harts file fed true hart known_taken [] taken fails notes known all told =
     let fed_all : take fed file ≡ file = ap (λ n. take n file) (known.ended refl) ∙ take_all (length file) file (omega arith) in
     let whole : known_taken ≡ records_of hart file = sym (append-nil known_taken) ∙ known.kept ∙ ap (records_of hart) fed_all in
@@ -67,7 +68,7 @@ IsTold-reach harts file fed false hart known_taken queue taken fails notes known
 pub IsTold-news : (harts : ℕ) (file : List Record) (fed : ℕ) (is_ended : Bool) (hart : ℕ) (known_taken queue : List Record)
     (taken : ℕ → List Record) (fails : Key → Type 0) (notes : List Note)
     → IsKnown harts file fed is_ended hart known_taken queue → taken hart ≡ known_taken → IsTold file taken fails notes
-    → IsTold file taken fails (notes ++ (map Wrote (new_writes hart known_taken notes) ++ reach_of is_ended hart queue known_taken))
+    → IsTold file taken fails (notes ++ (map Wrote (new_writes hart known_taken notes) ++ reach_by is_ended hart queue known_taken))
 IsTold-news harts file fed is_ended hart known_taken queue taken fails notes known is told =
     let held = hart_writes hart (announced notes) in
     let fresh = new_writes hart known_taken notes in
@@ -76,9 +77,9 @@ IsTold-news harts file fed is_ended hart known_taken queue taken fails notes kno
     let all : held ++ fresh ≡ writes_by known_taken = ap (λ ws. held ++ ws) rest ∙ wrote.1 in
     let own_taken = all_front (λ (r : Record). r.hart == hart) known_taken queue
     (ap (list_all (λ (r : Record). r.hart == hart)) known.kept ∙ all_filter (λ (r : Record). r.hart == hart) (take fed file)) in
-    let own = all_drop (λ (w : Write). w.key.hart == hart) (length held) (writes_by known_taken) (own_writes hart no_records known_taken own_taken) in
+    let own = list_all-drop (λ (w : Write). w.key.hart == hart) (length held) (writes_by known_taken) (own_writes hart no_records known_taken own_taken) in
     let none : List Write = [] in
     let fits : IsPrefix (held ++ fresh) (writes_by (taken hart)) = (none, append-nil (held ++ fresh) ∙ all ∙ ap writes_by (sym is)) in
     let wrote_all = IsTold-writes file taken fails notes hart fresh told own fits in
-    subst (λ (ns : List Note). IsTold file taken fails ns) (append_assoc notes (map Wrote fresh) (reach_of is_ended hart queue known_taken))
+    subst (λ (ns : List Note). IsTold file taken fails ns) (append_assoc notes (map Wrote fresh) (reach_by is_ended hart queue known_taken))
     (IsTold-reach harts file fed is_ended hart known_taken queue taken fails (notes ++ map Wrote fresh) known (wrote_all.1 ∙ all) wrote_all.0)

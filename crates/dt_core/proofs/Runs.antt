@@ -6,6 +6,7 @@ use Rattle.std.proofs.lemmas.List.{append_assoc, append-nil, take_all, take-appe
 use Rattle.std.proofs.lemmas.List.Elements.{filter-append}
 use Rattle.std.proofs.lemmas.Bool.Decides.{eqb_tells}
 use mathlib.Core.List.{IsPrefix}
+use Rattle.dt_lists.proofs.Lists.{filter-kept, filter-dropped, slice_get-append_left, slice_get-past, not_last}
 use Rattle.dt_record.specs.declared.keys.Key.{Key}
 use Rattle.dt_record.specs.declared.records.Record.{Record}
 use Rattle.dt_record.specs.declared.writes.Note.{Note}
@@ -17,17 +18,16 @@ use Rattle.dt_versions.specs.History.{writes_until}
 use Rattle.dt_core.specs.declared.entries.Entry.{Entry}
 use Rattle.dt_core.specs.declared.steps.CoreStep.{CoreStep}
 use Rattle.dt_core.specs.declared.steps.CoreStep.TheVariants.{Feed, Take, Announce, Look, Judge}
-use Rattle.dt_core.specs.Judgements.{Meaning, ReadsNoLaterWrites, AreJudged, failure_of}
-use Rattle.dt_core.specs.Machine.{HartState, CoreState, with_hart, queued, feed_next, take_first, take_of, is_mine, news_of, told, has_failed, is_key, last_judged, ends_with, is_true, announce_of, seen_notes, usable, next_record, judged, judge_next, judge_of, step_state, run_steps, new_hart, new_harts, opening_state}
+use Rattle.dt_core.specs.Judgements.{Meaning, ReadsNoLaterWrites, AreAnswered, failure_by}
+use Rattle.dt_core.specs.Machine.{HartState, CoreState, with_hart, queued, feed_next, take_first, take_of, is_mine, news_by, told, has_failed, is_key, last_judged, ends_with, is_true, announce_of, seen_notes, usable, next_record, judged, judge_next, judge_of, step_state, run_steps, new_hart, new_harts, opening_state}
 use Rattle.dt_record.specs.Marks.{CanJudge, can_judge}
 use Rattle.dt_core.specs.Notes.{notes_in, entries_of}
 use Rattle.dt_core.specs.Runs.{taken_in, queue_in, lists_of, HoldsAfter, EveryRunHolds}
 use Rattle.dt_core.specs.Sound.{IsSound, writes_by}
 use Rattle.dt_core.proofs.Announced.{writes_after-front}
 use Rattle.dt_core.proofs.Chances.{CanJudge-test, usable-until, AreJudged-more, AreJudged-next, failure_from-last}
-use Rattle.dt_core.proofs.Places.{slice_get-set_same, slice_get-set_other, slice_get-push, slice_get-front, take-next, past_end, within_get, not_last}
+use Rattle.dt_core.proofs.Places.{slice_get-set_same, slice_get-set_other, slice_get-push, take-next, within_get}
 use Rattle.dt_core.proofs.Reaches.{IsKnown, rest_of, IsTold-news}
-use Rattle.dt_core.proofs.Selection.{filter-pass, filter-drop}
 use Rattle.dt_core.proofs.Telling.{IsTold, IsTold-push, MayFollow}
 use Rattle.dt_core.proofs.Watermark.{WritesBelowMark-all, WritesUntilJudged-all}
 
@@ -35,7 +35,7 @@ use Rattle.dt_core.proofs.Watermark.{WritesBelowMark-all, WritesUntilJudged-all}
 
 -- the failure that a note may tell
 abbrev Fails : {J : Type 0} → Meaning J → List Record → Key → Type 0
-Fails m file key = failure_of m (writes_of file) key.hart (records_of key.hart file) ≡ Some key
+Fails m file key = failure_by m (writes_of file) key.hart (records_of key.hart file) ≡ Some key
 
 abbrev taken_at : {J : Type 0} → CoreState J → ℕ → List Record
 taken_at c hart = taken_in (slice_get c.harts hart)
@@ -47,7 +47,7 @@ pub record IsKept {J : Type 0} (m : Meaning J) (harts : ℕ) (file : List Record
   pub ended : IsTrue c.is_ended → c.fed ≡ length file
   pub kept : (hart : ℕ) → taken_in (slice_get c.harts hart) ++ queue_in (slice_get c.harts hart) ≡ records_of hart (take c.fed file)
   pub told : IsTold file (λ hart. taken_in (slice_get c.harts hart)) (Fails m file) (notes_in c.history)
-  pub judged : (hart : ℕ) (s : HartState J) → slice_get c.harts hart ≡ Some s → AreJudged m (writes_of file) (m.opening hart) s.taken s.outcomes s.state
+  pub judged : (hart : ℕ) (s : HartState J) → slice_get c.harts hart ≡ Some s → AreAnswered m (writes_of file) (m.opening hart) s.taken s.outcomes s.state
 
 -- what is kept of one hart
 known_of : {J : Type 0} (m : Meaning J) (harts : ℕ) (file : List Record) (c : CoreState J) (hart : ℕ) (s : HartState J)
@@ -72,10 +72,10 @@ IsKept-sound m harts file c kept = record {
 -- the records of a hart that were judged are the first of its records in the file
 judged_all : {J : Type 0} (m : Meaning J) (harts : ℕ) (file : List Record) (c : CoreState J) (hart : ℕ) (s : HartState J)
     → AreRecords harts no_stamps file → IsKept m harts file c → slice_get c.harts hart ≡ Some s
-    → AreJudged m (writes_of file) (m.opening hart) (records_of hart file) s.outcomes s.state
+    → AreAnswered m (writes_of file) (m.opening hart) (records_of hart file) s.outcomes s.state
 judged_all m harts file c hart s each kept found =
     let whole = rest_of harts file c.fed c.is_ended hart s.taken s.queue (known_of m harts file c hart s each kept found) in
-    subst (λ (rs : List Record). AreJudged m (writes_of file) (m.opening hart) rs s.outcomes s.state) whole
+    subst (λ (rs : List Record). AreAnswered m (writes_of file) (m.opening hart) rs s.outcomes s.state) whole
     (AreJudged-more m (writes_of file) (m.opening hart) s.taken (s.queue ++ records_of hart (drop c.fed file)) s.outcomes s.state (kept.judged hart s found))
 
 pub HoldsAfter-kept : {J : Type 0} (m : Meaning J) (harts : ℕ) (file : List Record) (c : CoreState J)
@@ -111,7 +111,7 @@ record IsChange {J : Type 0} (m : Meaning J) (file : List Record) (c : CoreState
   grown : IsPrefix s.taken t.taken
   kept : t.taken ++ t.queue ≡ records_of hart (take fed file)
   others : (h : ℕ) → (h ≡ hart → ⊥) → records_of h (take fed file) ≡ records_of h (take c.fed file)
-  judged : AreJudged m (writes_of file) (m.opening hart) t.taken t.outcomes t.state
+  judged : AreAnswered m (writes_of file) (m.opening hart) t.taken t.outcomes t.state
 
 at_hart : {J : Type 0} (c : CoreState J) (hart h : ℕ) (s t : HartState J) → slice_get c.harts hart ≡ Some s
     → ((h ≡ hart) × (slice_get (slice_set c.harts hart t) h ≡ Some t)) ⊎ ((h ≡ hart → ⊥) × (slice_get (slice_set c.harts hart t) h ≡ slice_get c.harts h))
@@ -142,8 +142,8 @@ IsKept-change m harts file c hart fed s t kept change = record {
   judged = λ h u at. elim (at_hart c hart h s t change.found) [
     | inl here ↦
         let is : t ≡ u = (let both : Some t ≡ Some u = sym here.1 ∙ at in cc) in
-        subst (λ (v : HartState _). AreJudged m (writes_of file) (m.opening h) v.taken v.outcomes v.state) is
-        (subst (λ (k : ℕ). AreJudged m (writes_of file) (m.opening k) t.taken t.outcomes t.state) (sym here.0) change.judged)
+        subst (λ (v : HartState _). AreAnswered m (writes_of file) (m.opening h) v.taken v.outcomes v.state) is
+        (subst (λ (k : ℕ). AreAnswered m (writes_of file) (m.opening k) t.taken t.outcomes t.state) (sym here.0) change.judged)
     | inr other ↦ kept.judged h u (sym other.1 ∙ at)
   ];
 }
@@ -161,7 +161,7 @@ new_harts-at m (suc n) hart s found =
     let whole = new_harts-length m (suc n) in
     let within = within_get (new_harts m (suc n)) hart s found in
     elim (cases_lt hart n) [
-      | inl lower ↦ new_harts-at m n hart s (sym (slice_get-front (new_harts m n) (new_hart (m.opening n) ∷ []) hart (omega arith)) ∙ found)
+      | inl lower ↦ new_harts-at m n hart s (sym (slice_get-append_left (new_harts m n) (new_hart (m.opening n) ∷ []) hart (omega arith)) ∙ found)
       | inr last ↦
           let place : hart ≡ length (new_harts m n) = omega arith in
           let number : n ≡ hart = omega arith in
@@ -191,7 +191,7 @@ IsKept-opening m harts workers file = record {
   };
   judged = λ hart s found.
       let is = new_harts-at m harts hart s found in
-      subst (λ (t : HartState _). AreJudged m (writes_of file) (m.opening hart) t.taken t.outcomes t.state) (sym is) refl;
+      subst (λ (t : HartState _). AreAnswered m (writes_of file) (m.opening hart) t.taken t.outcomes t.state) (sym is) refl;
 }
 
 -- Feed
@@ -210,12 +210,12 @@ step_queue : {J : Type 0} (m : Meaning J) (harts : ℕ) (file : List Record) (c 
     → IsKept m harts file (record c { fed = c.fed + 1; harts = queued c.harts r o })
 step_queue m harts file c r None each kept found at =
     let within = hart_within harts no_stamps file c.fed r each found in
-    let past = past_end c.harts r.hart at in
+    let past = slice_get-past c.harts r.hart at in
     let size = kept.size in
     absurd (omega arith)
 step_queue m harts file c r (Some s) each kept found at =
     let within = within_get file c.fed r found in
-    let own : records_of r.hart (r ∷ []) ≡ r ∷ [] = filter-pass (λ (q : Record). q.hart == r.hart) r [] (eq-eqb r.hart r.hart refl) in
+    let own : records_of r.hart (r ∷ []) ≡ r ∷ [] = filter-kept (λ (q : Record). q.hart == r.hart) r [] (eq-eqb r.hart r.hart refl) in
     let was : s.taken ++ s.queue ≡ records_of r.hart (take c.fed file) = ap (λ o. taken_in o ++ queue_in o) (sym at) ∙ kept.kept r.hart in
     let none : List Record = [] in
     let t : HartState _ = record s { queue = s.queue ++ r ∷ [] } in
@@ -227,7 +227,7 @@ step_queue m harts file c r (Some s) each kept found at =
       kept = sym (append_assoc s.taken s.queue (r ∷ [])) ∙ ap (λ rs. rs ++ r ∷ []) was
           ∙ ap (λ rs. records_of r.hart (take c.fed file) ++ rs) (sym own) ∙ sym (fed_more file c.fed r.hart r found);
       others = λ h apart. fed_more file c.fed h r found
-          ∙ ap (λ rs. records_of h (take c.fed file) ++ rs) (filter-drop (λ (q : Record). q.hart == h) r [] (differs r.hart h apart)) ∙ append-nil _;
+          ∙ ap (λ rs. records_of h (take c.fed file) ++ rs) (filter-dropped (λ (q : Record). q.hart == h) r [] (differs r.hart h apart)) ∙ append-nil _;
       judged = kept.judged r.hart s at;
     })
   where
@@ -240,7 +240,7 @@ step_queue m harts file c r (Some s) each kept found at =
 step_feed : {J : Type 0} (m : Meaning J) (harts : ℕ) (file : List Record) (c : CoreState J) (o : Option Record)
     → AreRecords harts no_stamps file → IsKept m harts file c → slice_get file c.fed ≡ o → IsKept m harts file (feed_next c o)
 step_feed m harts file c None each kept is =
-    let past = past_end file c.fed is in
+    let past = slice_get-past file c.fed is in
     let few = kept.few in
     record { size = kept.size; same = kept.same; few = kept.few; ended = λ ended. omega arith; kept = kept.kept; told = kept.told; judged = kept.judged }
 step_feed m harts file c (Some r) each kept is = step_queue m harts file c r (slice_get c.harts r.hart) each kept is refl
@@ -283,7 +283,7 @@ told-kept : {J : Type 0} (m : Meaning J) (harts : ℕ) (file : List Record) (c :
     → IsTold file (λ h. taken_in (slice_get c.harts h)) (Fails m file) (notes_in (told workers worker c.is_ended hart ss history))
 told-kept m harts file c workers worker hart [] history each kept places was = was
 told-kept m harts file c workers worker hart (s ∷ ss) history each kept places was =
-    let news = news_of c.is_ended hart s (notes_in history) in
+    let news = news_by c.is_ended hart s (notes_in history) in
     let here : slice_get c.harts hart ≡ Some s = ap (slice_get c.harts) (let at : hart ≡ hart + 0 = omega arith in at) ∙ sym (places 0) in
     let next : (k : ℕ) → slice_get ss k ≡ slice_get c.harts (suc hart + k) = λ k.
     places (suc k) ∙ ap (slice_get c.harts) (let at : hart + suc k ≡ suc hart + k = omega arith in at) in
@@ -323,7 +323,7 @@ fails_at m harts file c key (Some s) each kept at is =
     found (Some r) last failed keyed =
         let one = same_key key (key_of (length s.outcomes - 1) r) (ap (λ o. is_key key (option_map (key_of (length s.outcomes - 1)) o)) (sym last) ∙ keyed) in
         let whole = rest_of harts file c.fed c.is_ended key.hart s.taken s.queue (known_of m harts file c key.hart s each kept at) in
-        let inside = slice_get-front s.taken (s.queue ++ records_of key.hart (drop c.fed file)) (length s.outcomes - 1) (within_get s.taken (length s.outcomes - 1) r last) in
+        let inside = slice_get-append_left s.taken (s.queue ++ records_of key.hart (drop c.fed file)) (length s.outcomes - 1) (within_get s.taken (length s.outcomes - 1) r last) in
         let place = ap (λ rs. slice_get rs (length s.outcomes - 1)) (sym whole) ∙ inside ∙ last in
         let number : 0 + (length s.outcomes - 1) ≡ length s.outcomes - 1 = omega arith in
         failure_from-last m (writes_of file) 0 (m.opening key.hart) (records_of key.hart file) s.outcomes s.state r (judged_all m harts file c key.hart s each kept at) failed place
@@ -410,8 +410,8 @@ step_judged m harts file c hart s r law each kept at next can =
       grown = (none, append-nil s.taken);
       kept = ap (λ o. taken_in o ++ queue_in o) (sym at) ∙ kept.kept hart;
       others = λ h apart. refl;
-      judged = subst (λ (b : Bool). AreJudged m (writes_of file) (m.opening hart) s.taken (s.outcomes ++ b ∷ []) (m.after s.state used r)) (sym same.0)
-          (subst (λ (state : _). AreJudged m (writes_of file) (m.opening hart) s.taken (s.outcomes ++ m.allows s.state (writes_of file) r ∷ []) state) (sym same.1) whole);
+      judged = subst (λ (b : Bool). AreAnswered m (writes_of file) (m.opening hart) s.taken (s.outcomes ++ b ∷ []) (m.after s.state used r)) (sym same.0)
+          (subst (λ (state : _). AreAnswered m (writes_of file) (m.opening hart) s.taken (s.outcomes ++ m.allows s.state (writes_of file) r ∷ []) state) (sym same.1) whole);
     })
 
 step_next : {J : Type 0} (m : Meaning J) (harts : ℕ) (file : List Record) (c : CoreState J) (hart : ℕ) (s : HartState J) (o : Option Record)

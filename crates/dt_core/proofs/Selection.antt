@@ -1,13 +1,8 @@
 use Rattle.std.proofs.Common.{◌≡◌, Bool, true, false, cond, List, [], ◌∷◌, filter, refl, sym, ap, ◌∙◌}
 use Rattle.std.proofs.lemmas.Bool.{both_ways, cond-true, cond-false}
+use Rattle.dt_lists.proofs.Lists.{filter-kept, filter-dropped}
 
 -- Filters, one element at a time.
-
-pub filter-pass : {X : Type 0} (p : X → Bool) (x : X) (xs : List X) → p x ≡ true → filter p (x ∷ xs) ≡ x ∷ filter p xs
-filter-pass p x xs passes = cond-true (p x) (x ∷ filter p xs) (filter p xs) passes
-
-pub filter-drop : {X : Type 0} (p : X → Bool) (x : X) (xs : List X) → p x ≡ false → filter p (x ∷ xs) ≡ filter p xs
-filter-drop p x xs fails = cond-false (p x) (x ∷ filter p xs) (filter p xs) fails
 
 -- what is behind an element of which a filter keeps the same
 pub filter-behind : {X : Type 0} (p : X → Bool) (x : X) (xs ys : List X) → filter p xs ≡ filter p ys → filter p (x ∷ xs) ≡ filter p (x ∷ ys)
@@ -33,20 +28,16 @@ filter-swap p x y xs apart = swap x y (p x) (p y) (filter p xs) apart
 
 both-step : {X : Type 0} (p q : X → Bool) (x : X) (xs : List X) → filter p (filter q xs) ≡ filter q (filter p xs) → (b c : Bool) → p x ≡ b → q x ≡ c
     → filter p (cond c (x ∷ filter q xs) (filter q xs)) ≡ filter q (cond b (x ∷ filter p xs) (filter p xs))
-both-step p q x xs rest true true kept held = filter-pass p x (filter q xs) kept ∙ ap (λ ys. x ∷ ys) rest ∙ sym (filter-pass q x (filter p xs) held)
-both-step p q x xs rest true false kept held = rest ∙ sym (filter-drop q x (filter p xs) held)
-both-step p q x xs rest false true kept held = filter-drop p x (filter q xs) kept ∙ rest
+both-step p q x xs rest true true kept held = filter-kept p x (filter q xs) kept ∙ ap (λ ys. x ∷ ys) rest ∙ sym (filter-kept q x (filter p xs) held)
+both-step p q x xs rest true false kept held = rest ∙ sym (filter-dropped q x (filter p xs) held)
+both-step p q x xs rest false true kept held = filter-dropped p x (filter q xs) kept ∙ rest
 both-step p q x xs rest false false kept held = rest
-
-pub filter-both : {X : Type 0} (p q : X → Bool) (xs : List X) → filter p (filter q xs) ≡ filter q (filter p xs)
-filter-both p q [] = refl
-filter-both p q (x ∷ xs) = both-step p q x xs (filter-both p q xs) (p x) (q x) refl refl
 
 narrow-step : {X : Type 0} (p q : X → Bool) (x : X) (xs : List X) → (p x ≡ true → q x ≡ true) → filter p (filter q xs) ≡ filter p xs → (b c : Bool) → p x ≡ b → q x ≡ c
     → filter p (cond c (x ∷ filter q xs) (filter q xs)) ≡ cond b (x ∷ filter p xs) (filter p xs)
-narrow-step p q x xs within rest true true kept held = filter-pass p x (filter q xs) kept ∙ ap (λ ys. x ∷ ys) rest
+narrow-step p q x xs within rest true true kept held = filter-kept p x (filter q xs) kept ∙ ap (λ ys. x ∷ ys) rest
 narrow-step p q x xs within rest true false kept held = absurd (both_ways (q x) held (within kept))
-narrow-step p q x xs within rest false true kept held = filter-drop p x (filter q xs) kept ∙ rest
+narrow-step p q x xs within rest false true kept held = filter-dropped p x (filter q xs) kept ∙ rest
 narrow-step p q x xs within rest false false kept held = rest
 
 -- a filter that keeps nothing that another would not
@@ -56,4 +47,4 @@ filter-narrow p q (x ∷ xs) within = narrow-step p q x xs (within x) (filter-na
 
 pub filter-empty : {X : Type 0} (p : X → Bool) (xs : List X) → ((x : X) → p x ≡ false) → filter p xs ≡ []
 filter-empty p [] fails = refl
-filter-empty p (x ∷ xs) fails = filter-drop p x xs (fails x) ∙ filter-empty p xs fails
+filter-empty p (x ∷ xs) fails = filter-dropped p x xs (fails x) ∙ filter-empty p xs fails

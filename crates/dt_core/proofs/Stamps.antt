@@ -4,6 +4,7 @@ use Rattle.std.specs.List.{slice_get, list_all}
 use Rattle.std.proofs.lemmas.Bool.{and_parts, and_from, cases_Bool, cond-true, cond-false, leb-true, le-leb, le-ltb}
 use Rattle.std.proofs.lemmas.Bool.Decides.{nat_tests}
 use Rattle.std.proofs.lemmas.List.Elements.{filter-append}
+use Rattle.dt_lists.proofs.Lists.{filter-kept, filter-dropped}
 use Rattle.dt_record.specs.declared.keys.Key.{Key}
 use Rattle.dt_record.specs.declared.records.Record.{Record}
 use Rattle.dt_record.specs.declared.records.Body.{Body}
@@ -13,7 +14,6 @@ use Rattle.dt_record.specs.Keys.{records_of}
 use Rattle.dt_record.specs.ProbeFile.{AreRecords, stamped}
 use Rattle.dt_record.specs.Writes.{body_write, write_of_record, counted, writes_after}
 use Rattle.dt_core.specs.Notes.{writes_below}
-use Rattle.dt_core.proofs.Selection.{filter-pass, filter-drop}
 
 -- The stamps of one hart's records do not fall, and a write has its record's stamp and hart.
 
@@ -29,12 +29,12 @@ Rises-records_of harts hart last (r ∷ rs) each = elim (cases_Bool (r.hart == h
       let rest = Rises-records_of harts hart (stamped last r) rs each.1 in
       let here : stamped last r hart ≡ r.stamp = cond-true (hart == r.hart) r.stamp (last hart) (eq-eqb hart r.hart (sym same)) in
       let first : last hart ≤ r.stamp = subst (λ (h : ℕ). last h ≤ r.stamp) same each.0.stamp in
-      subst (λ (xs : List Record). Rises (last hart) xs) (sym (filter-pass (λ (s : Record). s.hart == hart) r rs own))
+      subst (λ (xs : List Record). Rises (last hart) xs) (sym (filter-kept (λ (s : Record). s.hart == hart) r rs own))
       (first, subst (λ (n : ℕ). Rises n (records_of hart rs)) here rest)
   | inr other ↦
       let rest = Rises-records_of harts hart (stamped last r) rs each.1 in
       let here : stamped last r hart ≡ last hart = cond-false (hart == r.hart) r.stamp (last hart) (turned r.hart hart other) in
-      subst (λ (xs : List Record). Rises (last hart) xs) (sym (filter-drop (λ (s : Record). s.hart == hart) r rs other))
+      subst (λ (xs : List Record). Rises (last hart) xs) (sym (filter-dropped (λ (s : Record). s.hart == hart) r rs other))
       (subst (λ (n : ℕ). Rises n (records_of hart rs)) here rest)
 ]
   where

@@ -4,6 +4,7 @@ use Rattle.std.proofs.lemmas.Bool.{and_parts, cases_Bool}
 use Rattle.std.proofs.lemmas.List.{append_assoc, append-nil}
 use Rattle.std.proofs.lemmas.List.Elements.{filter-append, filter_map-append}
 use mathlib.Core.List.{IsPrefix}
+use Rattle.dt_lists.proofs.Lists.{filter-kept, filter-dropped}
 use Rattle.dt_record.specs.declared.keys.Key.{Key}
 use Rattle.dt_record.specs.declared.records.Record.{Record}
 use Rattle.dt_record.specs.declared.writes.Write.{Write}
@@ -12,7 +13,6 @@ use Rattle.dt_record.specs.declared.writes.Note.TheVariants.{Wrote, Mark, End, C
 use Rattle.dt_record.specs.Keys.{records_of}
 use Rattle.dt_core.specs.Notes.{write_in, announced, hart_writes, writes_below}
 use Rattle.dt_core.specs.Sound.{IsAnnounced, writes_by}
-use Rattle.dt_core.proofs.Selection.{filter-pass, filter-drop}
 use Rattle.dt_core.proofs.Places.{push-split}
 
 -- What a note has to be so that a history may go on with it.
@@ -86,7 +86,7 @@ IsTold-writes file taken fails notes hart [] told own fits = (
 IsTold-writes file taken fails notes hart (w ∷ ws) told own fits =
     let parts = and_parts (w.key.hart == hart) (list_all (λ (v : Write). v.key.hart == hart) ws) own in
     let held = hart_writes hart (announced notes) in
-    let mine : hart_writes hart (w ∷ []) ≡ w ∷ [] = filter-pass (λ (v : Write). v.key.hart == hart) w [] parts.0 in
+    let mine : hart_writes hart (w ∷ []) ≡ w ∷ [] = filter-kept (λ (v : Write). v.key.hart == hart) w [] parts.0 in
     let follows : MayFollow file taken fails notes (Wrote w) = λ h. elim (cases_Bool (w.key.hart == h)) [
       | inl own_hart ↦
           let same : hart ≡ h = sym (eqb-true w.key.hart hart parts.0) ∙ eqb-true w.key.hart h own_hart in
@@ -96,7 +96,7 @@ IsTold-writes file taken fails notes hart (w ∷ ws) told own fits =
                 ∙ ap (λ vs. vs ++ fits.0) (append_assoc held (w ∷ []) ws) ∙ fits.1,
           )
       | inr other ↦
-          let none : hart_writes h (w ∷ []) ≡ [] = filter-drop (λ (v : Write). v.key.hart == h) w [] other in
+          let none : hart_writes h (w ∷ []) ≡ [] = filter-dropped (λ (v : Write). v.key.hart == h) w [] other in
           subst (λ (vs : List Write). IsPrefix vs (writes_by (taken h))) (sym (ap (λ vs. hart_writes h (announced notes) ++ vs) none ∙ append-nil _)) (told.harts h).wrote
     ] in
     let next = IsTold-push file taken fails notes (Wrote w) told follows in

@@ -4,6 +4,7 @@ use Rattle.std.proofs.lemmas.Bool.Decides.{nat_tests}
 use Rattle.std.proofs.lemmas.List.{append_assoc}
 use Rattle.std.proofs.lemmas.List.Elements.{filter-append, filter_agree}
 use mathlib.Core.List.{IsPrefix}
+use Rattle.dt_lists.proofs.Lists.{filter-dropped, filter-filter}
 use Rattle.dt_record.specs.declared.records.Record.{Record}
 use Rattle.dt_record.specs.declared.writes.Write.{Write}
 use Rattle.dt_record.specs.declared.writes.Note.{Note}
@@ -15,7 +16,6 @@ use Rattle.dt_core.specs.Notes.{announced, hart_writes, writes_below}
 use Rattle.dt_record.specs.Marks.{mark_of, has_ended, least_with, least_mark, HasPassed}
 use Rattle.dt_core.specs.Sound.{Lists, IsSound, writes_by}
 use Rattle.dt_core.specs.Laws.{HoldsBelow, WritesBelowMarkAreAll, WritesUntilJudgedAreAll, WritesUntilPassedAreAll}
-use Rattle.dt_core.proofs.Selection.{filter-drop, filter-both}
 use Rattle.dt_core.proofs.Insertion.{filter-by_key}
 use Rattle.dt_core.proofs.Sorting.{by_key-harts}
 use Rattle.dt_core.proofs.Announced.{hart_writes-after, IsFront, IsFront-below, IsFront-passed, IsFront-ended, IsFront-empty}
@@ -27,7 +27,7 @@ pub records_of-none : (harts hart : ℕ) (last : ℕ → ℕ) (records : List Re
 records_of-none harts hart last [] each past = refl
 records_of-none harts hart last (r ∷ rs) each past = elim (cases_Bool (r.hart == hart)) [
   | inl own ↦ let same = eqb-true r.hart hart own in let few = each.0.hart in absurd (omega arith)
-  | inr other ↦ filter-drop (λ (s : Record). s.hart == hart) r rs other ∙ records_of-none harts hart (stamped last r) rs each.1 past
+  | inr other ↦ filter-dropped (λ (s : Record). s.hart == hart) r rs other ∙ records_of-none harts hart (stamped last r) rs each.1 past
 ]
 
 -- what a hart has taken is a front of its records in the file
@@ -79,7 +79,7 @@ hart_below harts hart stamp file l front each sound begins held_each =
           ap (writes_below stamp) (IsFront-empty hart (records_of hart file) (l.taken hart) l.history front is none)
           ∙ ap (λ rs. writes_below stamp (writes_by rs)) (sym none)
     ] in
-    filter-both own under (announced front) ∙ held ∙ ap (writes_below stamp) (sym whole) ∙ filter-both under own (writes_after no_records file)
+    filter-filter own under (announced front) ∙ held ∙ ap (writes_below stamp) (sym whole) ∙ filter-filter under own (writes_after no_records file)
 
 -- so the front holds exactly the writes of the file below the stamp
 all_below : (harts stamp : ℕ) (file : List Record) (l : Lists) (front : List Note)

@@ -20,11 +20,11 @@ ReadsNoLaterWrites {J} m = (state : J) (ws vs : List Write) (r : Record) → wri
 
 -- Over these writes the first of the records have these outcomes, one after another from a first
 -- state to a last one. Behind a record that is not allowed none is judged.
-abbrev pub AreJudged : {J : Type 0} → Meaning J → List Write → J → List Record → List Bool → J → Type 0
-AreJudged m writes first records [] last = last ≡ first
-AreJudged m writes first [] (o ∷ os) last = ⊥
-AreJudged m writes first (r ∷ rs) (o ∷ os) last =
-    (o ≡ m.allows first writes r) × (o ≡ false → os ≡ []) × AreJudged m writes (m.after first writes r) rs os last
+abbrev pub AreAnswered : {J : Type 0} → Meaning J → List Write → J → List Record → List Bool → J → Type 0
+AreAnswered m writes first records [] last = last ≡ first
+AreAnswered m writes first [] (o ∷ os) last = ⊥
+AreAnswered m writes first (r ∷ rs) (o ∷ os) last =
+    (o ≡ m.allows first writes r) × (o ≡ false → os ≡ []) × AreAnswered m writes (m.after first writes r) rs os last
 
 -- the key of the first record that is not allowed over these writes, where the first record has this number
 abbrev pub failure_from : {J : Type 0} → Meaning J → List Write → ℕ → J → List Record → Option Key
@@ -33,5 +33,5 @@ failure_from m writes seq state (r ∷ rs) =
     if m.allows state writes r then failure_from m writes (seq + 1) (m.after state writes r) rs else Some (key_of seq r)
 
 -- the failure of a hart with these records, if any
-abbrev pub failure_of : {J : Type 0} → Meaning J → List Write → ℕ → List Record → Option Key
-failure_of m writes hart records = failure_from m writes 0 (m.opening hart) records
+abbrev pub failure_by : {J : Type 0} → Meaning J → List Write → ℕ → List Record → Option Key
+failure_by m writes hart records = failure_from m writes 0 (m.opening hart) records

@@ -69,25 +69,25 @@ abbrev pub last_mark : ℕ → List Record → List Note
 last_mark hart taken = option_to_list (option_map (λ r. Mark hart r.stamp) (slice_get taken (length taken - 1)))
 
 -- End once no more records come and none is queued, and a Mark until then
-abbrev pub reach_of : Bool → ℕ → List Record → List Record → List Note
-reach_of true hart [] taken = End hart ∷ []
-reach_of true hart (r ∷ rs) taken = last_mark hart taken
-reach_of false hart queue taken = last_mark hart taken
+abbrev pub reach_by : Bool → ℕ → List Record → List Record → List Note
+reach_by true hart [] taken = End hart ∷ []
+reach_by true hart (r ∷ rs) taken = last_mark hart taken
+reach_by false hart queue taken = last_mark hart taken
 
 -- the writes of taken records that are not yet announced
 abbrev pub new_writes : ℕ → List Record → List Note → List Write
 new_writes hart taken notes = drop (length (hart_writes hart (announced notes))) (writes_by taken)
 
 -- what is to be told of one hart after these notes
-abbrev pub news_of : {J : Type 0} → Bool → ℕ → HartState J → List Note → List Note
-news_of is_ended hart s notes = map Wrote (new_writes hart s.taken notes) ++ reach_of is_ended hart s.queue s.taken
+abbrev pub news_by : {J : Type 0} → Bool → ℕ → HartState J → List Note → List Note
+news_by is_ended hart s notes = map Wrote (new_writes hart s.taken notes) ++ reach_by is_ended hart s.queue s.taken
 
 -- the history after the worker's news of these harts, of which the first has this number
 abbrev pub told : {J : Type 0} → ℕ → ℕ → Bool → ℕ → List (HartState J) → List Entry → List Entry
 told workers worker is_ended hart [] history = history
 told workers worker is_ended hart (s ∷ ss) history =
     told workers worker is_ended (suc hart) ss
-    (if is_mine workers worker hart then history ++ entries_of worker (news_of is_ended hart s (notes_in history)) else history)
+    (if is_mine workers worker hart then history ++ entries_of worker (news_by is_ended hart s (notes_in history)) else history)
 
 abbrev pub has_failed : List Bool → Bool
 has_failed outcomes = list_any not outcomes

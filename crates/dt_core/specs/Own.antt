@@ -7,12 +7,12 @@ use Rattle.dt_record.specs.Lawful.{IsLawful}
 use Rattle.dt_core.specs.Machine.{HartState, CoreState}
 
 -- each of the records is lawful, and of this hart
-abbrev pub AreOwn : ℕ → List Record → Type 0
-AreOwn hart records = (i : ℕ) (r : Record) → slice_get records i ≡ Some r → IsLawful r × (r.hart ≡ hart)
+abbrev pub AreOfHart : ℕ → List Record → Type 0
+AreOfHart hart records = (i : ℕ) (r : Record) → slice_get records i ≡ Some r → IsLawful r × (r.hart ≡ hart)
 
 -- what each hart has taken is its own, and not more than a file may have
 pub record AreTaken {J : Type 0} (harts : List (HartState J)) : Type 0 where
-  pub own : (hart : ℕ) (s : HartState J) → slice_get harts hart ≡ Some s → AreOwn hart s.taken
+  pub own : (hart : ℕ) (s : HartState J) → slice_get harts hart ≡ Some s → AreOfHart hart s.taken
   pub few : (hart : ℕ) (s : HartState J) → slice_get harts hart ≡ Some s → length s.taken ≤ RECORD_LIMIT
 
 pub record IsSafe {J : Type 0} (c : CoreState J) : Type 0 where

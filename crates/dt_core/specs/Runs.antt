@@ -11,7 +11,7 @@ use Rattle.dt_record.specs.Keys.{records_of}
 use Rattle.dt_record.specs.ProbeFile.{AreRecords, no_stamps}
 use Rattle.dt_record.specs.Writes.{writes_of}
 use Rattle.dt_core.specs.declared.steps.CoreStep.{CoreStep}
-use Rattle.dt_core.specs.Judgements.{Meaning, AreJudged, failure_of}
+use Rattle.dt_core.specs.Judgements.{Meaning, AreAnswered, failure_by}
 use Rattle.dt_core.specs.Laws.{HoldsBelow}
 use Rattle.dt_core.specs.Machine.{HartState, CoreState, run_steps, opening_state}
 use Rattle.dt_record.specs.Marks.{least_mark}
@@ -43,10 +43,10 @@ pub record HoldsAfter {J : Type 0} (m : Meaning J) (harts : ℕ) (file : List Re
   pub exact : (front : List Note) → IsPrefix front (notes_in c.history) → HoldsBelow (least_mark harts front) front file
   -- every outcome is the judgement over all writes of the file
   pub judged : (hart : ℕ) (s : HartState J) → slice_get c.harts hart ≡ Some s
-      → AreJudged m (writes_of file) (m.opening hart) (records_of hart file) s.outcomes s.state
+      → AreAnswered m (writes_of file) (m.opening hart) (records_of hart file) s.outcomes s.state
   -- every Failure note is the failure of its hart over all writes of the file
   pub failures : (before after : List Note) (key : Key) → notes_in c.history ≡ before ++ Failure key ∷ after
-      → failure_of m (writes_of file) key.hart (records_of key.hart file) ≡ Some key
+      → failure_by m (writes_of file) key.hart (records_of key.hart file) ≡ Some key
 
 -- after any list of steps from the start
 abbrev pub EveryRunHolds : {J : Type 0} → Meaning J → Type 0

@@ -2,9 +2,9 @@
 ghost use Rattle.std.specs.Prelude.{◌≡◌, ◌≤◌, ◌<◌, ◌++◌, ℕ, length, map, take, drop, option_to_list, if◌then◌else◌, IfOk, OnOk, OnErr, IsTrue};
 ghost use Rattle.dt_record.specs.declared.limits.TheConstants.{HART_LIMIT, RECORD_LIMIT};
 ghost use Rattle.dt_record.specs.declared.writes.Note.{Note};
-ghost use Rattle.dt_core.specs.Machine.{HartState, is_mine, reach_of, new_writes, news_of, told};
+ghost use Rattle.dt_core.specs.Machine.{HartState, is_mine, reach_by, new_writes, news_by, told};
 ghost use Rattle.dt_core.specs.Notes.{announced, hart_writes, notes_in, entries_of};
-ghost use Rattle.dt_core.specs.Own.{AreOwn, AreTaken};
+ghost use Rattle.dt_core.specs.Own.{AreOfHart, AreTaken};
 
 use crate::entries::Entry;
 use crate::harts::Hart;
@@ -54,8 +54,8 @@ fn add_writes(notes: &mut Vec<Note>, writes: &[Write]) -> Result<(), AllocError>
 
 /// How far the hart has come: to its end, once no more records come and none is queued. Before that
 /// it has come to the cycle of the record that it took last, where it took one.
-fn reach_of(is_ended: bool, hart: u8, queue: &[Record], taken: &[Record]) -> Option<Note>
-    ensures { option_to_list result ≡ reach_of is_ended hart queue.now taken.now }
+fn reach_by(is_ended: bool, hart: u8, queue: &[Record], taken: &[Record]) -> Option<Note>
+    ensures { option_to_list result ≡ reach_by is_ended hart queue.now taken.now }
 {
     if is_ended && queue.is_empty() {
         Some(Note::End { hart })
@@ -68,22 +68,22 @@ fn reach_of(is_ended: bool, hart: u8, queue: &[Record], taken: &[Record]) -> Opt
 }
 
 /// What is to be told of one hart after these notes.
-fn news_of<J: Judgement>(
+fn news_by<J: Judgement>(
     alloc: Global,
     is_ended: bool,
     hart: u8,
     state: &Hart<J>,
     notes: &[Note],
 ) -> Result<Vec<Note>, AllocError>
-    requires own { AreOwn hart state.now.taken }
+    requires own { AreOfHart hart state.now.taken }
     requires few { length state.now.taken ≤ RECORD_LIMIT }
-    ensures { IfOk result (λ news. news.items ≡ news_of is_ended hart state.now notes.now) }
+    ensures { IfOk result (λ news. news.items ≡ news_by is_ended hart state.now notes.now) }
 {
     let told = announced_len(alloc, hart, notes)?;
     let writes = writes_by(alloc, hart, state.taken())?;
     let mut news = Vec::new(alloc);
     add_writes(&mut news, &writes[told.min(writes.len())..])?;
-    if let Some(note) = reach_of(is_ended, hart, state.queue(), state.taken()) {
+    if let Some(note) = reach_by(is_ended, hart, state.queue(), state.taken()) {
         news.push(note)?;
     }
     Ok(news)
@@ -105,16 +105,16 @@ fn tell_hart<J: Judgement>(
     history: &mut Vec<Entry>,
 ) -> Result<(), AllocError>
     requires workers { 1 ≤ by.workers }
-    requires own { AreOwn hart state.now.taken }
+    requires own { AreOfHart hart state.now.taken }
     requires few { length state.now.taken ≤ RECORD_LIMIT }
     ensures { OnOk result (history.new.items
         ≡ (if is_mine by.workers by.worker hart
-        then history.old.items ++ entries_of by.worker (news_of by.is_ended hart state.now (notes_in history.old.items))
+        then history.old.items ++ entries_of by.worker (news_by by.is_ended hart state.now (notes_in history.old.items))
         else history.old.items)) }
 {
     if is_mine(by.workers, by.worker, hart) {
         let notes = notes_in(alloc, history)?;
-        let news = news_of(alloc, by.is_ended, hart, state, &notes)?;
+        let news = news_by(alloc, by.is_ended, hart, state, &notes)?;
         add_entries(history, by.worker, &news)?;
     }
     Ok(())

@@ -6,7 +6,7 @@ ghost use Rattle.dt_record.specs.Keys.{key_below};
 ghost use Rattle.dt_record.specs.Writes.{insert_write, by_key};
 ghost use Rattle.dt_core.specs.Machine.{usable_below, usable};
 ghost use Rattle.dt_core.specs.Notes.{writes_below};
-ghost use Rattle.dt_core.specs.Own.{AreOwn};
+ghost use Rattle.dt_core.specs.Own.{AreOfHart};
 ghost use Rattle.dt_core.specs.Sound.{writes_by};
 
 use crate::notes::{announced, least_mark};
@@ -74,7 +74,7 @@ pub fn usable(alloc: Global, harts: u8, notes: &[Note]) -> Result<Vec<Write>, Al
 
 /// The writes of one hart's records.
 pub fn writes_by(alloc: Global, hart: u8, records: &[Record]) -> Result<Vec<Write>, AllocError>
-    requires own { AreOwn hart records.now }
+    requires own { AreOfHart hart records.now }
     requires few { length records.now ≤ RECORD_LIMIT }
     ensures { IfOk result (λ writes. writes.items ≡ writes_by records.now) }
 {

@@ -13,7 +13,7 @@ use Rattle.dt_csr.specs.Fields.{mask_of, masks_of, field_of, with_field}
 use Rattle.dt_csr.specs.Modes.{IsMode}
 use Rattle.dt_csr.specs.Registers.{row_of, status_fields}
 use Rattle.dt_csr.specs.Traps.{status_in_s, status_in_m, status_after_mret, status_after_sret, is_delegated, trap_mode, entered, entered_s, entered_m, after_mret, after_sret}
-use Rattle.dt_csr.specs.Kept.{HasFixedBits, IsKept, kept_registers, values_of}
+use Rattle.dt_csr.specs.Kept.{HasFixedBits, AreKeptInBounds, kept_registers, values_of}
 use Rattle.dt_csr.proofs.Bits.{field_put, field_apart}
 use Rattle.dt_csr.proofs.Writes.{fixed_put, change_fixed, whole}
 
@@ -97,7 +97,7 @@ mode_named mode is e = omega (arith, is)
 even_pc : (pc : ℕ) → pc < 2 ^ 64 → pc % 2 ≡ 0 → HasFixedBits Mepc pc
 even_pc pc fits even = (fits, and_mask pc 1 ∙ even)
 
-pub entered_s_keeps : (c : Csrs) (mode pc cause tval : ℕ) → mode < 2 → pc < 2 ^ 64 → pc % 2 ≡ 0 → cause < 2 ^ 64 → tval < 2 ^ 64 → IsKept c → IsKept (entered_s c mode pc cause tval)
+pub entered_s_keeps : (c : Csrs) (mode pc cause tval : ℕ) → mode < 2 → pc < 2 ^ 64 → pc % 2 ≡ 0 → cause < 2 ^ 64 → tval < 2 ^ 64 → AreKeptInBounds c → AreKeptInBounds (entered_s c mode pc cause tval)
 entered_s_keeps c mode pc cause tval small fits even of_cause of_tval h =
     let status = status_in_s c.mstatus mode in
     let first = set (values_of c) 0 status in
@@ -117,7 +117,7 @@ entered_s_keeps c mode pc cause tval small fits even of_cause of_tval h =
       floors = h.floors;
     }
 
-pub entered_m_keeps : (c : Csrs) (mode pc cause tval : ℕ) → IsMode mode → pc < 2 ^ 64 → pc % 2 ≡ 0 → cause < 2 ^ 64 → tval < 2 ^ 64 → IsKept c → IsKept (entered_m c mode pc cause tval)
+pub entered_m_keeps : (c : Csrs) (mode pc cause tval : ℕ) → IsMode mode → pc < 2 ^ 64 → pc % 2 ≡ 0 → cause < 2 ^ 64 → tval < 2 ^ 64 → AreKeptInBounds c → AreKeptInBounds (entered_m c mode pc cause tval)
 entered_m_keeps c mode pc cause tval is fits even of_cause of_tval h =
     let status = status_in_m c.mstatus mode in
     let first = set (values_of c) 0 status in
@@ -137,7 +137,7 @@ entered_m_keeps c mode pc cause tval is fits even of_cause of_tval h =
       floors = h.floors;
     }
 
-pub mret_keeps : (c : Csrs) → IsKept c → IsKept (after_mret c)
+pub mret_keeps : (c : Csrs) → AreKeptInBounds c → AreKeptInBounds (after_mret c)
 mret_keeps c h =
     record {
       fixed_bits = change_fixed kept_registers (values_of c) 0 (status_after_mret c.mstatus) Mstatus h.fixed_bits refl (mret_fixed c.mstatus);
@@ -146,7 +146,7 @@ mret_keeps c h =
       floors = h.floors;
     }
 
-pub sret_keeps : (c : Csrs) → IsKept c → IsKept (after_sret c)
+pub sret_keeps : (c : Csrs) → AreKeptInBounds c → AreKeptInBounds (after_sret c)
 sret_keeps c h =
     record {
       fixed_bits = change_fixed kept_registers (values_of c) 0 (status_after_sret c.mstatus) Mstatus h.fixed_bits refl (sret_fixed c.mstatus);

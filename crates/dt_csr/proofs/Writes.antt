@@ -14,7 +14,7 @@ use Rattle.dt_csr.specs.declared.state.Csrs.{Csrs}
 use Rattle.dt_csr.specs.Fields.{merged, mask_of, masks_of, field_of, with_field}
 use Rattle.dt_csr.specs.Registers.{row_of, status_fields, supervisor_fields, supervisor_interrupts, interrupts, but_bit}
 use Rattle.dt_csr.specs.Access.{written, rewritten_status, keeps_mode, ChangesOnly}
-use Rattle.dt_csr.specs.Kept.{IsFixedOutside, HasFixedBits, HaveFixedBits, NamesMode, IsKept, kept_registers, values_of}
+use Rattle.dt_csr.specs.Kept.{IsFixedOutside, HasFixedBits, HaveFixedBits, NamesMode, AreKeptInBounds, kept_registers, values_of}
 use Rattle.dt_csr.proofs.Bits.{merged_inside, merged_outside, mask_fits, same_field, field_put}
 
 pub merged_fits : (mask old new : ℕ) → old < 2 ^ 64 → new < 2 ^ 64 → merged mask old new < 2 ^ 64
@@ -88,7 +88,7 @@ satp_mode wide satp value h =
     cond_both (keeps_mode wide (field_of value MODE)) value satp (λ n. IsTrue (keeps_mode wide (field_of n MODE))) (λ e. e) (λ _. h)
 
 -- a legal write leaves registers as a hart can have them
-pub written_keeps : (c : Csrs) (register : Register) (value : ℕ) → value < 2 ^ 64 → IsKept c → IsKept (written c register value)
+pub written_keeps : (c : Csrs) (register : Register) (value : ℕ) → value < 2 ^ 64 → AreKeptInBounds c → AreKeptInBounds (written c register value)
 written_keeps c Mstatus value fits h = record { fixed_bits = change_fixed kept_registers (values_of c) 0 (rewritten_status (masks_of status_fields) c.mstatus value) Mstatus h.fixed_bits refl (λ old. status_fixed c.mstatus value fits old); mpp = status_names c.mstatus value h.mpp; satp_mode = h.satp_mode; floors = h.floors }
 written_keeps c Misa value fits h = h
 written_keeps c Medeleg value fits h = record { fixed_bits = change_fixed kept_registers (values_of c) 1 (merged (0xB3FF) c.medeleg value) Medeleg h.fixed_bits refl (λ old. own (0xB3FF) c.medeleg value (omega arith) refl fits old); mpp = h.mpp; satp_mode = h.satp_mode; floors = h.floors }

@@ -50,7 +50,7 @@ abbrev pub NamesMode : ℕ → Type 0
 NamesMode status = field_of status MPP ≢ RESERVED_MODE
 
 -- registers as a hart can have them: the table's bounds on each value (this project's own)
-pub record IsKept (c : Csrs) : Type 0 where
+pub record AreKeptInBounds (c : Csrs) : Type 0 where
   pub fixed_bits : HaveFixedBits kept_registers (values_of c)
   pub mpp : NamesMode c.mstatus
   pub satp_mode : IsTrue (keeps_mode c.wide (field_of c.satp MODE))

@@ -3,7 +3,7 @@ ghost use Rattle.std.specs.Bool.{OnFalse};
 ghost use Rattle.dt_csr.specs.Fields.{field_of, masks_of};
 ghost use Rattle.dt_csr.specs.Access.{is_open, counter_is_open, reached_by, read_of, shown, may_write_of, write_of, written, ChangesOnly, lowest_mode, is_read_only, keeps_mode, rewritten_status};
 ghost use Rattle.dt_csr.specs.Registers.{register_at, status_fields};
-ghost use Rattle.dt_csr.specs.Kept.{IsKept, NamesMode};
+ghost use Rattle.dt_csr.specs.Kept.{AreKeptInBounds, NamesMode};
 
 use crate::cause::{INTERRUPTS, SUPERVISOR_INTERRUPTS};
 use crate::registers::Register;
@@ -59,7 +59,7 @@ pub fn write(c: &mut Csrs, mode: u8, number: u16, value: u64) -> bool
     ensures only { IfSome (register_at number) (λ register. ChangesOnly register c.old c.new) }
 
     ensures mpp { NamesMode c.old.mstatus → NamesMode c.new.mstatus }
-    ensures keeps { IsKept c.old → IsKept c.new }
+    ensures keeps { AreKeptInBounds c.old → AreKeptInBounds c.new }
 {
     match reached(c, mode, number) {
         Some(register) if !cannot_be_written(number) => {

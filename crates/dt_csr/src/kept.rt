@@ -98,7 +98,7 @@ pub fn keeps_bounds(v: &[u64; 17], wide: bool) -> bool
 }
 
 impl Csrs {
-    ghost use Rattle.dt_csr.specs.Kept.{IsKept, KeepsBounds, values_of};
+    ghost use Rattle.dt_csr.specs.Kept.{AreKeptInBounds, KeepsBounds, values_of};
 
     /// The registers with these values, in the order of `values`, and these floors under what
     /// mcycle, minstret and time show next.
@@ -109,7 +109,7 @@ impl Csrs {
         ensures instret { result.instret_floor ≡ instret }
         ensures time { result.time_floor ≡ time }
         ensures wide { result.wide ≡ wide }
-        ensures keeps { IsKept result }
+        ensures keeps { AreKeptInBounds result }
     {
         Csrs {
             cycle_floor: cycle,

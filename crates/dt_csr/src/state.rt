@@ -35,12 +35,12 @@ pub struct Csrs {
 impl Csrs {
     ghost use Rattle.dt_csr.specs.Registers.{reset_csrs};
     ghost use Rattle.dt_csr.specs.Access.{floor_of, with_floor};
-    ghost use Rattle.dt_csr.specs.Kept.{IsKept, values_of};
+    ghost use Rattle.dt_csr.specs.Kept.{AreKeptInBounds, values_of};
 
     /// The registers after a reset. They are not wide.
     pub fn reset() -> Csrs
         ensures value { result ≡ reset_csrs }
-        ensures keeps { IsKept result }
+        ensures keeps { AreKeptInBounds result }
     {
         Csrs {
             mstatus: mstatus::RESET,
@@ -109,7 +109,7 @@ impl Csrs {
     pub fn set_floor(&mut self, counter: u8, value: u64)
         ensures floor { self.new ≡ with_floor self.old counter value }
         ensures mpp { self.new.mstatus ≡ self.old.mstatus }
-        ensures keeps { IsKept self.old → IsKept self.new }
+        ensures keeps { AreKeptInBounds self.old → AreKeptInBounds self.new }
     {
         match counter {
             0 => self.cycle_floor = value,

@@ -1,7 +1,7 @@
 ghost use Rattle.std.specs.Prelude.{◌≡◌, ◌==◌, ◌<◌, ◌^◌, ◌%◌, ◌↔◌, ℕ, IsTrue, bit_and, bit_or, if◌then◌else◌};
 ghost use Rattle.std.specs.Int.{bit_at};
 ghost use Rattle.dt_csr.specs.Fields.{field_of};
-ghost use Rattle.dt_csr.specs.Kept.{IsKept, NamesMode};
+ghost use Rattle.dt_csr.specs.Kept.{AreKeptInBounds, NamesMode};
 ghost use Rattle.dt_csr.specs.Modes.{IsMode};
 ghost use Rattle.dt_csr.specs.Traps.{expected_tval, is_delegated, trap_mode, trap_pc, status_in_s, status_in_m, entered, entered_pc, status_after_mret, status_after_sret, mret_mode, mret_pc, after_mret, sret_mode, sret_pc, after_sret, takes_for_m, takes_for_s, is_enabled, enabled_codes};
 
@@ -22,7 +22,7 @@ pub fn enter_trap(c: &mut Csrs, mode: u8, pc: u64, cause: u64, tval: u64) -> (u8
 
     ensures is_mode { IsMode result.0 }
     ensures mpp { NamesMode c.old.mstatus → NamesMode c.new.mstatus }
-    ensures keeps { IsKept c.old → pc % 2 ≡ 0 → IsKept c.new }
+    ensures keeps { AreKeptInBounds c.old → pc % 2 ≡ 0 → AreKeptInBounds c.new }
 {
     if mode < MACHINE && delegates(c, cause) {
         c.mstatus = status_in_s(c.mstatus, mode);
@@ -47,7 +47,7 @@ pub fn mret(c: &mut Csrs) -> (u8, u64)
 
     ensures is_mode { NamesMode c.old.mstatus → IsMode result.0 }
     ensures mpp { NamesMode c.new.mstatus }
-    ensures keeps { IsKept c.old → IsKept c.new }
+    ensures keeps { AreKeptInBounds c.old → AreKeptInBounds c.new }
 {
     let mode = MPP.get(c.mstatus) as u8;
     c.mstatus = status_after_mret(c.mstatus);
@@ -62,7 +62,7 @@ pub fn sret(c: &mut Csrs) -> (u8, u64)
 
     ensures is_mode { IsMode result.0 }
     ensures mpp { NamesMode c.old.mstatus → NamesMode c.new.mstatus }
-    ensures keeps { IsKept c.old → IsKept c.new }
+    ensures keeps { AreKeptInBounds c.old → AreKeptInBounds c.new }
 {
     let mode = SPP.get(c.mstatus) as u8;
     c.mstatus = status_after_sret(c.mstatus);

@@ -1,7 +1,7 @@
 ghost use Rattle.std.specs.Prelude.{◌≡◌, ◌==◌, List, IsOk, Ok};
 ghost use Rattle.dt_record.specs.declared.reasons.Reason.TheVariants.{DrainData};
 ghost use Rattle.dt_record.specs.Actions.{Action};
-ghost use Rattle.dt_stores.specs.Standing.{StandsFor};
+ghost use Rattle.dt_stores.specs.Standing.{StoresStand};
 ghost use Rattle.dt_stores.specs.Draining.{drain_answer};
 ghost use Rattle.dt_rules.specs.Checks.{misfit, check, first_difference};
 ghost use Rattle.dt_drains.specs.Draining.{store_data_check, answer_check, drain_check};
@@ -36,8 +36,8 @@ pub fn drains(
     bytes: &[u8; 64],
     seq: u32,
 ) -> Result<(), Misfit>
-    ensures checks { (actions : List Action) → StandsFor s.now actions → result ≡ drain_check actions line mask count bytes.now seq }
-    ensures took { IsOk result → (actions : List Action) → StandsFor s.now actions → drain_answer actions line count ≡ DrainAnswer.Took mask bytes.now }
+    ensures checks { (actions : List Action) → StoresStand s.now actions → result ≡ drain_check actions line mask count bytes.now seq }
+    ensures took { IsOk result → (actions : List Action) → StoresStand s.now actions → drain_answer actions line count ≡ DrainAnswer.Took mask bytes.now }
 {
     is_answer(s.would_drain(line, count), mask, count, bytes, seq)
 }

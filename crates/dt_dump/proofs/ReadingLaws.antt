@@ -1,6 +1,7 @@
 -- How a stream of probe records is read on, answer by answer: laws with their proofs.
 use Rattle.std.proofs.Common.{◌≡◌, ◌∙◌, ◌<◌, ◌≤◌, ◌+◌, ℕ, Bool, List, [], ◌∷◌, ◌++◌, Option, Some, None, IsSome, IsSomeAnd, IfSome, length, refl, sym, ap, subst, append_assoc, arith}
 use Rattle.std.proofs.lemmas.List.{append-nil, length-append}
+use Rattle.dt_lists.proofs.Lists.{some_and}
 use Rattle.dt_record.specs.declared.records.Record.{Record}
 use Rattle.dt_record.specs.declared.streams.Next.{Next}
 use Rattle.dt_record.specs.declared.streams.Next.TheVariants.{Header, Event, End, Malformed, Limit, ReadFault, OutOfMemory}
@@ -76,11 +77,6 @@ tells_header old new given harts wide t h = record {
   none_yet = λ e. let bad : Some harts ≡ None = sym t.harts_are ∙ e in cc;
   events = λ _. ap length (h.none_yet t.first) ∙ sym t.no_events;
 }
-
--- the value that an option has, and what holds of it
-some_and : {A : Type 0} (o : Option A) (P : A → Type 0) → IsSomeAnd o P → (x : A) × (o ≡ Some x) × P x
-some_and None P h = absurd h
-some_and (Some x) P h = (x, refl, h)
 
 -- a record comes behind a header, as one that may stand next
 pub behind_header : (old : Progress) (r : Record) → IsSomeAnd old.harts (λ harts. IsNext harts old.stamps r) → (harts : ℕ) × (old.harts ≡ Some harts) × IsNext harts old.stamps r

@@ -26,7 +26,7 @@ use Rattle.dt_stores.specs.declared.answers.DrainAnswer.TheVariants as answer
 use Rattle.dt_stores.specs.Draining.{drain_answer, OnRefused, OnTook, UnlessOutOfMemory}
 use Rattle.dt_stores.specs.GoingOn.{DrainsStayBelow}
 use Rattle.dt_stores.specs.Kept.{Kept}
-use Rattle.dt_stores.specs.Standing.{StandsFor as Keeps, GainsAction}
+use Rattle.dt_stores.specs.Standing.{StoresStand, GainsAction}
 use Rattle.dt_hart.specs.declared.accesses.Accesses.{Accesses}
 use Rattle.dt_hart.specs.Counting.{CountsOn}
 use Rattle.dt_hart.specs.Following.{Follows, floor_asked, noted_by, read_by, read_key}
@@ -37,10 +37,10 @@ use Rattle.dt_hart.proofs.ReadKeys.{greater-none}
 
 -- a drain that is known to take its stores has taken them
 pub drain_gains : (result : DrainAnswer) (old new : Kept) (key : Key) (line count : ℕ) → (result ≡ answer.OutOfMemory → ⊥)
-    → UnlessOutOfMemory result ((actions : List Action) → Keeps old actions → result ≡ drain_answer actions line count)
+    → UnlessOutOfMemory result ((actions : List Action) → StoresStand old actions → result ≡ drain_answer actions line count)
     → OnTook result (GainsAction old new (Drained key line count))
-    → (actions : List Action) (taken : ℕ) (bytes : List ℕ) → Keeps old actions → drain_answer actions line count ≡ answer.Took taken bytes
-    → Keeps new (actions ++ Drained key line count ∷ [])
+    → (actions : List Action) (taken : ℕ) (bytes : List ℕ) → StoresStand old actions → drain_answer actions line count ≡ answer.Took taken bytes
+    → StoresStand new (actions ++ Drained key line count ∷ [])
 drain_gains (answer.Took mask found) old new key line count memory answers took actions taken bytes keeps is = took actions keeps
 drain_gains (answer.Few held) old new key line count memory answers took actions taken bytes keeps is =
     let no : answer.Few held ≡ answer.Took taken bytes = answers actions keeps ∙ is in absurd (cc)
@@ -81,7 +81,7 @@ max_zero m n none = omega (arith, none)
 pub rest_follows : (a : Accesses) (key : Key) (body : Body) (sources : Sources) → body_action key body ≡ None → body_write key body ≡ None
     → ((byte : ℕ) → read_by body sources byte ≡ None) → Follows a a key body sources
 rest_follows a key body sources action write read = record {
-  stores = λ actions before drained. rw action (subst (λ (l : List Action). Keeps a.stores l) (sym (append-nil actions)) before);
+  stores = λ actions before drained. rw action (subst (λ (l : List Action). StoresStand a.stores l) (sym (append-nil actions)) before);
   keys = λ byte. sym (ap (λ (o : Option Write). greater (newest_of a.local byte) (option_map_or (covering_key byte) o (read_by body sources byte))) write
       ∙ ap (greater (newest_of a.local byte)) (read byte) ∙ greater-none (newest_of a.local byte));
   floor = max_zero a.floor _ (ap (floor_asked a.last_read) action);
@@ -138,7 +138,7 @@ atomic_follows (Err memory) old new key body sources retire paddr width wrote ne
 -- by a drain
 pub drain_follows : (result : Result (Unit {0}) AllocError) (old new : Accesses) (key : Key) (body : Body) (sources : Sources) (line mask count : ℕ) (found : List ℕ)
     → body ≡ Drain line mask count found
-    → OnOk result ((actions : List Action) (taken : ℕ) (bytes : List ℕ) → Keeps old.stores actions → drain_answer actions line count ≡ answer.Took taken bytes → Keeps new.stores (actions ++ Drained key line count ∷ []))
+    → OnOk result ((actions : List Action) (taken : ℕ) (bytes : List ℕ) → StoresStand old.stores actions → drain_answer actions line count ≡ answer.Took taken bytes → StoresStand new.stores (actions ++ Drained key line count ∷ []))
     → OnOk result (Notes old new (λ byte. if is_noted line mask byte then Some key else None))
     → new.floor ≡ old.floor → new.last_read ≡ old.last_read → OnOk result (Follows old new key body sources)
 drain_follows (Ok done) old new key body sources line mask count found is stores noted floor last = rw is (record {

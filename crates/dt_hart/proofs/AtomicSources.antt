@@ -10,6 +10,8 @@ use Rattle.std.proofs.lemmas.List.Folds.{list_all-append}
 use Rattle.std.proofs.lemmas.Nat.{pow-add}
 use Rattle.std.proofs.lemmas.Nat.Bits.{bit_at_mask_inside}
 use Rattle.std.proofs.lemmas.Option.{same_Some}
+use Rattle.dt_judged.proofs.Covered.{width_has}
+use Rattle.dt_lists.proofs.Lists.{list_all-reverse, found_passes}
 use Rattle.dt_record.specs.declared.keys.Key.{Key}
 use Rattle.dt_record.specs.declared.writes.Write.{Write}
 use Rattle.dt_record.specs.Actions.{Action, Atomic}
@@ -24,25 +26,6 @@ use Rattle.dt_sources.specs.Knowing.{covering_key, write_key}
 use Rattle.dt_versions.specs.History.{are_in_order}
 
 -- An atomic reads writes that stand below its own key, and one that writes covers each byte that it reads.
-
--- what is found passes every test that all elements pass
-found_passes : {X : Type 0} (p q : X → Bool) (xs : List X) (x : X) → find p xs ≡ Some x → list_all q xs ≡ true → q x ≡ true
-found_passes p q [] x found all = cc
-found_passes p q (y ∷ ys) x found all =
-    let parts = and_parts (q y) (list_all q ys) all in
-    elim (cases_Bool (p y)) [
-      | inl here ↦
-          let same : y ≡ x = let e = sym (cond-true (p y) (Some y) (find p ys) here) ∙ found in cc in
-          ap q (sym same) ∙ parts.0
-      | inr past ↦ found_passes p q ys x (sym (cond-false (p y) (Some y) (find p ys) past) ∙ found) parts.1
-    ]
-
-list_all-reverse : {X : Type 0} (p : X → Bool) (xs : List X) → list_all p xs ≡ true → list_all p (reverse xs) ≡ true
-list_all-reverse p [] all = refl
-list_all-reverse p (x ∷ xs) all =
-    let parts = and_parts (p x) (list_all p xs) all in
-    ap (list_all p) (reverse-append (x ∷ []) xs) ∙ list_all-append p (reverse xs) (x ∷ [])
-    ∙ and_from (list_all p (reverse xs)) (list_all p (x ∷ [])) (list_all-reverse p xs parts.1) (and_from (p x) true parts.0 refl)
 
 -- after a write that does not stand below a key there is none that does
 none_below : (key : Key) (w : Write) (ws : List Write) → list_all (λ v. key_below w.key v.key) ws ≡ true → key_below w.key key ≡ false
@@ -83,23 +66,6 @@ source_below writes key byte source ordered is = by_found (find (covers byte) (r
         subst (λ (k : Key). KeyBelow k key) (same_Some w.key source has)
         (found_passes (covers byte) (λ v. key_below v.key key) (reverse (take (moment_of writes key) writes)) w found
         (list_all-reverse (λ v. key_below v.key key) (take (moment_of writes key) writes) below))
-
-width_has : (place width bit : ℕ) → place ≤ bit → bit < place + width → bit_at (width_mask place width) bit ≡ 1
-width_has place width bit from to =
-    let both : 2 ^ (width + place) ≡ 2 ^ width * 2 ^ place = pow-add 2 width place in
-    let end : place + width ≡ width + place = omega arith in
-    let less : (2 ^ width - 1) * 2 ^ place ≡ 2 ^ width * 2 ^ place - 2 ^ place = times_less (2 ^ width) (2 ^ place) in
-    let mask : width_mask place width ≡ 2 ^ (width + place) - 2 ^ place = less ∙ ap (λ n. n - 2 ^ place) (sym both) in
-    ap (λ n. bit_at n bit) mask ∙ bit_at_mask_inside place (width + place) bit from (omega arith)
-  where
-    times_less : (a b : ℕ) → (a - 1) * b ≡ a * b - b
-    times_less zero b =
-        let none : 0 - 1 ≡ 0 = omega arith in
-        ap (λ n. n * b) none ∙ (omega arith)
-    times_less (suc a) b =
-        let less : suc a - 1 ≡ a = omega arith in
-        let more : suc a * b ≡ a * b + b = suc-mul a b in
-        ap (λ n. n * b) less ∙ (omega arith)
 
 -- a byte of an atomic lies inside the line in which the atomic begins
 record IsInside (addr width byte : ℕ) : Type 0 where

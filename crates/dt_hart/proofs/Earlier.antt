@@ -3,6 +3,7 @@ use Rattle.std.specs.List.{slice_get}
 use Rattle.std.proofs.lemmas.Bool.{cases_lt, eqb-true}
 use Rattle.std.proofs.lemmas.Bool.Decides.{nat_tests}
 use Rattle.std.proofs.lemmas.Option.{same_Some}
+use Rattle.dt_lists.proofs.Lists.{slice_get-append_left, slice_get-append_seam}
 use Rattle.dt_record.specs.declared.keys.Key.{Key}
 use Rattle.dt_record.specs.declared.records.Record.{Record}
 use Rattle.dt_record.specs.declared.writes.Write.{Write}
@@ -11,7 +12,7 @@ use Rattle.dt_record.specs.Writes.{write_of_record}
 use Rattle.dt_sources.specs.Knowing.{WroteBefore}
 use Rattle.dt_hart.specs.OwnWrites.{GoesOn}
 use Rattle.dt_hart.specs.Settings.{Setting, key_in, next_key, last_stamp}
-use Rattle.dt_hart.proofs.Members.{list_all-at, slice_get-append_left, slice_get-append_seam}
+use Rattle.dt_hart.proofs.Members.{list_all-at}
 use Rattle.dt_hart.proofs.OwnKeys.{own_record, write_key_is, rising_at, stamp_from_below, stamp_from_above}
 
 -- Which of a hart's own writes stand before its next record, and before the one after that.

@@ -12,7 +12,7 @@ use Rattle.dt_reference.specs.Run.{after_record, start_of, state_from}
 use Rattle.dt_step.specs.declared.state.Arch.{Arch}
 use Rattle.dt_step.specs.declared.plans.Planned.{Planned}
 use Rattle.dt_windows.specs.Fences.{Fence, fence_at}
-use Rattle.dt_windows.specs.Kept.{WindowsView, StandsFor as KeepsFences}
+use Rattle.dt_windows.specs.Kept.{WindowsView, FencesStand}
 use Rattle.dt_hart.specs.Fences.{fence_by, fence_in, fences_from, fences_of}
 use Rattle.dt_hart.specs.Following.{FollowsFences}
 use Rattle.dt_hart.specs.Reserving.{reserved_by, reserved_from, reserved_in}
@@ -87,8 +87,8 @@ fences_earlier s r g =
 
 -- what stands for the fences goes on standing for them
 pub windows_after : (s : Setting) (r : Record) (moment : ℕ) (a : Arch) (seq : ℕ) (old new : WindowsView) → a ≡ arch_of s → seq ≡ length s.before → GoesOn s r
-    → FollowsFences old new a seq r → KeepsFences old (fences_of s) → KeepsFences new (fences_of (after s r moment))
+    → FollowsFences old new a seq r → FencesStand old (fences_of s) → FencesStand new (fences_of (after s r moment))
 windows_after s r moment a seq old new arch count g follows keeps =
     let its : FollowsFences old new (arch_of s) (length s.before) r =
     subst (λ (b : Arch). FollowsFences old new b (length s.before) r) arch (subst (λ n. FollowsFences old new a n r) count follows) in
-    subst (λ (l : List Fence). KeepsFences new l) (sym (fences_after s r moment)) (its (fences_of s) (fences_earlier s r g) keeps)
+    subst (λ (l : List Fence). FencesStand new l) (sym (fences_after s r moment)) (its (fences_of s) (fences_earlier s r g) keeps)

@@ -13,7 +13,7 @@ use Rattle.dt_reference.specs.Run.{after_record, state_after}
 use Rattle.dt_sources.specs.Knowing.{Knows, AreJudged, KnowingGoesOn, NotesAreAdded}
 use Rattle.dt_judged.specs.GoingOn.{JudgedGoesOn}
 use Rattle.dt_step.specs.declared.state.Arch.{Arch}
-use Rattle.dt_stores.specs.Standing.{StandsFor as Keeps}
+use Rattle.dt_stores.specs.Standing.{StoresStand}
 use Rattle.dt_hart.specs.declared.accesses.Accesses.{Accesses}
 use Rattle.dt_windows.specs.Kept.{WindowsView}
 use Rattle.dt_hart.specs.Following.{Follows, FollowsFences, floor_asked}
@@ -21,7 +21,7 @@ use Rattle.dt_hart.specs.HartView.{HartView}
 use Rattle.dt_hart.specs.OwnWrites.{GoesOn}
 use Rattle.dt_hart.specs.Reserving.{reserved_by}
 use Rattle.dt_hart.specs.Settings.{Setting, after, did, does, key_in, moments_after, next_key}
-use Rattle.dt_hart.specs.Standing.{StandsFor}
+use Rattle.dt_hart.specs.Standing.{HartStands}
 use Rattle.dt_hart.specs.Taking.{WasJudged, is_placed}
 use Rattle.dt_hart.proofs.Earlier.{key_after}
 use Rattle.dt_hart.proofs.FencesOn.{reserved_after, windows_after}
@@ -68,8 +68,8 @@ next_after s r moment =
 pub goes_on : Laws → (a b : Arch) (seq stamp : ℕ) (old new : Accesses) (reserved leaves : Option (ℕ × Key)) (windows next : WindowsView) (r : Record) (sources : Sources)
     → IsTrue (is_placed (action_of seq r)) → b ≡ after_record a r → Follows old new (key_of seq r) r.body sources → leaves ≡ reserved_by (key_of seq r) r.body reserved
     → FollowsFences windows next a seq r
-    → (s : Setting) (moment : ℕ) → StandsFor (kept a seq stamp old reserved windows) s → GoesOn s r → WasJudged s r moment sources
-    → StandsFor (kept b (seq + 1) r.stamp new leaves next) (after s r moment)
+    → (s : Setting) (moment : ℕ) → HartStands (kept a seq stamp old reserved windows) s → GoesOn s r → WasJudged s r moment sources
+    → HartStands (kept b (seq + 1) r.stamp new leaves next) (after s r moment)
 goes_on laws a b seq stamp old new reserved leaves windows next r sources placed state follow reserves fences s moment stands g known =
     let kind : Kind (key_in s r) r.body = kind_of (key_in s r) r.body in
     let h : HartView = kept a seq stamp old reserved windows in
@@ -87,7 +87,7 @@ goes_on laws a b seq stamp old new reserved leaves windows next r sources placed
       seq = ap (λ n. n + 1) stands.seq ∙ sym long;
       stamp = sym (stamp_from-snoc 0 s.before r);
       arch = state ∙ ap (λ (x : Arch). after_record x r) stands.arch ∙ sym (laws.state s.hart s.wide s.before r);
-      stores = subst (λ (xs : List Action). Keeps new.stores xs) (sym acts) (follows.stores (did s) stands.stores known.is_drained);
+      stores = subst (λ (xs : List Action). StoresStand new.stores xs) (sym acts) (follows.stores (did s) stands.stores known.is_drained);
       knows = subst (λ (k : Key). Knows l s.writes (did (after s r moment)) moments k) (sym next_is)
           (subst (λ (xs : List Action). Knows l s.writes xs moments (key_after s r)) (sym acts) knows);
       chosen = subst (λ (xs : List Action). AreLeastSources s.image s.writes xs moments) (sym acts) chosen;

@@ -9,7 +9,7 @@ use Rattle.dt_judged.specs.GoingOn.{IsOnward, IsNewNumber, IsAllowedDrain, Judge
 use Rattle.dt_hart.specs.HartView.{HartView}
 use Rattle.dt_hart.specs.OwnWrites.{GoesOn}
 use Rattle.dt_hart.specs.Settings.{Setting, did, does, key_in, next_key}
-use Rattle.dt_hart.specs.Standing.{StandsFor, KnowsAtNext}
+use Rattle.dt_hart.specs.Standing.{HartStands, KnowsAtNext}
 use Rattle.dt_hart.specs.Taking.{is_placed, IsDrained}
 use Rattle.dt_hart.proofs.RecordKinds.{Kind, Idle, Loads, Stores, Fences, Atomics, Drains, IsStore, IsDrain}
 use Rattle.dt_hart.proofs.Earlier.{key_after, is_its, next_rises, after_rises, next_below_after}
@@ -19,7 +19,7 @@ use Rattle.dt_hart.proofs.StoreNumbers.{number_below}
 
 -- The hart's actions go on being judged.
 
-pub judged_next : JudgedGoesOn → (h : HartView) (s : Setting) (r : Record) → StandsFor h s → GoesOn s r → AreJudged s.writes (did s) (key_in s r)
+pub judged_next : JudgedGoesOn → (h : HartView) (s : Setting) (r : Record) → HartStands h s → GoesOn s r → AreJudged s.writes (did s) (key_in s r)
 judged_next laws h s r stands g =
     laws.other_record s.writes (did s) (next_key s) (key_in s r) stands.judged (record { hart = sym (is_its s r g); rises = next_rises s r g })
 
@@ -46,7 +46,7 @@ allowed_drain s r g d drained = record {
   took = rw d.is at drained;
 }
 
-pub judged_after : JudgedGoesOn → (h : HartView) (s : Setting) (r : Record) (g : GoesOn s r) → StandsFor h s → IsDrained (did s) r.body → IsTrue (is_placed (does s r)) → Kind (key_in s r) r.body
+pub judged_after : JudgedGoesOn → (h : HartView) (s : Setting) (r : Record) (g : GoesOn s r) → HartStands h s → IsDrained (did s) r.body → IsTrue (is_placed (does s r)) → Kind (key_in s r) r.body
     → AreJudged s.writes (did s ++ option_to_list (does s r)) (key_after s r)
 judged_after laws h s r g stands drained placed (Idle idle) =
     rw idle.action (subst (λ (l : List Action). AreJudged s.writes l (key_after s r)) (sym (append-nil (did s)))

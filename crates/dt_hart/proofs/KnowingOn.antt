@@ -28,8 +28,8 @@ use Rattle.dt_hart.specs.Following.{read_key, read_by, noted_by}
 use Rattle.dt_hart.specs.HartView.{HartView}
 use Rattle.dt_hart.specs.OwnWrites.{GoesOn}
 use Rattle.dt_hart.specs.Settings.{Setting, did, does, key_in, next_key, moments_after}
-use Rattle.dt_hart.specs.Standing.{StandsFor}
-use Rattle.dt_hart.specs.Taking.{IsRead, ReadsLeast, ReadsAtKey, is_placed}
+use Rattle.dt_hart.specs.Standing.{HartStands}
+use Rattle.dt_hart.specs.Taking.{WasRead, ReadsLeast, ReadsAtKey, is_placed}
 use Rattle.dt_hart.proofs.AtomicSources.{atomic_write, own_is_greater}
 use Rattle.dt_hart.proofs.Earlier.{key_after, is_its, next_rises, earlier, after_rises, next_below_after, only_earlier, only_its}
 use Rattle.dt_hart.proofs.RecordKinds.{Kind, Idle, Loads, Stores, Fences, Atomics, Drains, IsIdle, IsLoad, IsAtomic, IsDrain}
@@ -39,7 +39,7 @@ use Rattle.dt_hart.proofs.ReadKeys.{greater-none, read_key-below, read_key-withi
 -- What local memory knows after one more record, and the moments of the loads.
 
 -- it knows what it has to at the key of the next record
-pub known_next : KnowingGoesOn → (h : HartView) (s : Setting) (r : Record) → StandsFor h s → GoesOn s r → Knows (local_memory h.keys None) s.writes (did s) s.moments (key_in s r)
+pub known_next : KnowingGoesOn → (h : HartView) (s : Setting) (r : Record) → HartStands h s → GoesOn s r → Knows (local_memory h.keys None) s.writes (did s) s.moments (key_in s r)
 known_next laws h s r stands g =
     laws.other_record (local_memory h.keys None) s.writes (did s) s.moments (next_key s) (key_in s r) stands.knows (sym (is_its s r g)) (next_rises s r g) (earlier s r g)
 
@@ -205,7 +205,7 @@ drain_known laws added old new s r g sources moment knows notes d =
 
 -- whatever the record is, local memory goes on knowing
 pub known_after : KnowingGoesOn → NotesAreAdded → (old new : LocalMemory) (s : Setting) (r : Record) (g : GoesOn s r) (moment : ℕ) (sources : Sources) → Knows old s.writes (did s) s.moments (key_in s r)
-    → Notes old new s r sources → IsRead s (does s r) moment sources → IsTrue (is_placed (does s r)) → Kind (key_in s r) r.body → KnowsAfter new s r moment
+    → Notes old new s r sources → WasRead s (does s r) moment sources → IsTrue (is_placed (does s r)) → Kind (key_in s r) r.body → KnowsAfter new s r moment
 known_after laws added old new s r g moment sources knows notes known placed (Idle idle) = idle_known laws old new s r g sources moment knows notes idle
 known_after laws added old new s r g moment sources knows notes known placed (Loads load) =
     load_known laws added old new s r g sources moment knows notes load (rw load.action at known)
@@ -233,7 +233,7 @@ other_after laws image writes actions moments action ordered chosen no_load =
 
 -- the loads have read at the moments of the least fitting assignment
 pub chosen_after : ChoiceLaws → (s : Setting) (r : Record) (moment : ℕ) (sources : Sources) → IsTrue (are_in_order s.writes) → AreLeastSources s.image s.writes (did s) s.moments
-    → IsRead s (does s r) moment sources → Kind (key_in s r) r.body → AreLeastSources s.image s.writes (did s ++ option_to_list (does s r)) (moments_after s (does s r) moment)
+    → WasRead s (does s r) moment sources → Kind (key_in s r) r.body → AreLeastSources s.image s.writes (did s ++ option_to_list (does s r)) (moments_after s (does s r) moment)
 chosen_after laws s r moment sources ordered chosen known (Idle idle) =
     rw idle.action (subst (λ (l : List Action). AreLeastSources s.image s.writes l s.moments) (sym (append-nil (did s))) chosen)
 chosen_after laws s r moment sources ordered chosen known (Loads load) =

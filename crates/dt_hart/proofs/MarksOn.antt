@@ -21,7 +21,7 @@ use Rattle.dt_hart.specs.Following.{known_in}
 use Rattle.dt_hart.specs.HartView.{HartView}
 use Rattle.dt_hart.specs.Marks.{IsLive, IsSound, AreAlike, KeepsMarks, MarksGoOn, local_in, stood_at, forgotten}
 use Rattle.dt_hart.specs.Settings.{Setting, did, next_key}
-use Rattle.dt_hart.specs.Standing.{StandsFor}
+use Rattle.dt_hart.specs.Standing.{HartStands}
 
 -- How the marks of a hart go on.
 
@@ -58,7 +58,7 @@ drain_marks answer.OutOfMemory old new took refused = subst (KeepsStoresMarks ol
 
 -- ---- harts that are alike
 
-pub alike_stands : (h other : HartView) (s : Setting) → AreAlike h other → StandsFor h s → StandsFor other s
+pub alike_stands : (h other : HartView) (s : Setting) → AreAlike h other → HartStands h s → HartStands other s
 alike_stands h other s alike stands = record {
   seq = alike.seq ∙ stands.seq;
   stamp = alike.stamp ∙ stands.stamp;

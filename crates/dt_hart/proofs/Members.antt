@@ -55,12 +55,3 @@ list_all-at p (y ∷ ys) zero x all there =
     let here : y ≡ x = cc in
     ap p (sym here) ∙ (and_parts (p y) (list_all p ys) all).0
 list_all-at p (y ∷ ys) (suc i) x all there = list_all-at p ys i x (and_parts (p y) (list_all p ys) all).1 there
-
-pub slice_get-append_left : {X : Type 0} (xs ys : List X) (i : ℕ) → i < length xs → slice_get (xs ++ ys) i ≡ slice_get xs i
-slice_get-append_left [] ys i within = absurd (omega arith)
-slice_get-append_left (x ∷ xs) ys zero within = refl
-slice_get-append_left (x ∷ xs) ys (suc i) within = slice_get-append_left xs ys i (omega arith)
-
-pub slice_get-append_seam : {X : Type 0} (xs : List X) (y : X) (ys : List X) → slice_get (xs ++ y ∷ ys) (length xs) ≡ Some y
-slice_get-append_seam [] y ys = refl
-slice_get-append_seam (x ∷ xs) y ys = slice_get-append_seam xs y ys

@@ -4,6 +4,7 @@ use Rattle.std.specs.List.{Contains, list_all, slice_get}
 use Rattle.std.specs.Option.{option_to_list}
 use Rattle.std.proofs.lemmas.Bool.{and_parts, leb-true, eq-eqb}
 use Rattle.std.proofs.lemmas.List.Elements.{Contains-append_left, Contains-append_right, Contains-append_cases}
+use Rattle.dt_lists.proofs.Lists.{slice_get-append_seam}
 use Rattle.dt_record.specs.declared.keys.Key.{Key}
 use Rattle.dt_record.specs.declared.records.Body.{Body}
 use Rattle.dt_record.specs.declared.records.Body.TheVariants.{Atomic, Drain}
@@ -13,7 +14,7 @@ use Rattle.dt_record.specs.Writes.{body_write, write_of_record}
 use Rattle.dt_writes.specs.OwnWrites.{own_writes_from}
 use Rattle.dt_hart.specs.OwnWrites.{are_rising, GoesOn}
 use Rattle.dt_hart.specs.Settings.{Setting, stamp_from}
-use Rattle.dt_hart.proofs.Members.{Contains-filter, Contains-from_filter, Contains-option, option_contains, list_all-at, slice_get-append_seam}
+use Rattle.dt_hart.proofs.Members.{Contains-filter, Contains-from_filter, Contains-option, option_contains, list_all-at}
 
 -- The keys of a hart's own writes.
 

@@ -8,6 +8,7 @@ use Rattle.std.proofs.lemmas.Bool.Decides.{nat_tests}
 use Rattle.std.proofs.lemmas.List.{take_more, length-append, length-take, length-set, get_or-set_other}
 use Rattle.std.proofs.lemmas.Grind.{get_or-set_at}
 use Rattle.std.proofs.lemmas.Option.{slice_get_past, slice_get_within, slice_get-get_or, get_or_from_slice_get}
+use Rattle.dt_lists.proofs.Lists.{slice_get-append_left, slice_get-append_seam}
 use Rattle.dt_record.specs.declared.keys.Key.{Key}
 use Rattle.dt_record.specs.declared.origins.Origin.{Origin}
 use Rattle.dt_record.specs.declared.origins.Origin.TheVariants as origin
@@ -15,7 +16,6 @@ use Rattle.dt_record.specs.Memory.{line_of}
 use Rattle.dt_local.specs.LocalMemory.{greater, noted_key}
 use Rattle.dt_sources.specs.Knowing.{write_key}
 use Rattle.dt_hart.specs.Following.{read_key}
-use Rattle.dt_hart.proofs.Members.{slice_get-append_left, slice_get-append_seam}
 
 -- The keys of the writes that a load's bytes came from.
 

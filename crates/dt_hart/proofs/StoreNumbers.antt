@@ -3,6 +3,7 @@ use Rattle.std.specs.List.{Contains}
 use Rattle.std.specs.Option.{option_to_list}
 use Rattle.std.proofs.lemmas.Bool.{cases_Bool}
 use Rattle.std.proofs.lemmas.List.Elements.{Contains-append_cases}
+use Rattle.dt_stores.proofs.ActionLaws.{stores_of-append}
 use Rattle.dt_decode.specs.declared.instructions.Instr.{Instr}
 use Rattle.dt_decode.specs.declared.instructions.Instr.TheVariants.{Fence}
 use Rattle.dt_record.specs.declared.accesses.OwnStore.{OwnStore}
@@ -52,14 +53,6 @@ store_number key (Atomic retire paddr width wrote new) store is = absurd (cc is)
 store_number key (Drain line mask count bytes) store is = absurd (cc is)
 store_number key (Refill line bytes) store is = absurd (cc is)
 store_number key Beat store is = absurd (cc is)
-
-stores_of-append : (xs ys : List Action) → stores_of (xs ++ ys) ≡ stores_of xs ++ stores_of ys
-stores_of-append [] ys = refl
-stores_of-append (Stored s ∷ xs) ys = ap (λ l. s ∷ l) (stores_of-append xs ys)
-stores_of-append (Drained key line count ∷ xs) ys = stores_of-append xs ys
-stores_of-append (Fenced ww wr rr ∷ xs) ys = stores_of-append xs ys
-stores_of-append (Loaded ask ∷ xs) ys = stores_of-append xs ys
-stores_of-append (Accessed key addr width reads acquires ∷ xs) ys = stores_of-append xs ys
 
 one_store : (o : Option Action) (store : OwnStore) → Contains (stores_of (option_to_list o)) store → o ≡ Some (Stored store)
 one_store None store there = absurd (no_element store there)

@@ -3,13 +3,13 @@ use Rattle.dt_record.specs.declared.keys.Key.{Key}
 use Rattle.dt_record.specs.Actions.{Action}
 use Rattle.dt_stores.specs.GoingOn.{AreDrainedBelow}
 use Rattle.dt_stores.specs.Kept.{Kept}
-use Rattle.dt_stores.specs.Standing.{StandsFor}
+use Rattle.dt_stores.specs.Standing.{StoresStand}
 
 -- A store buffer stands for some actions, no more than its hart had records, so it counted no more fences than these;
 -- and the drains among them have keys below one that the hart's next record may have (this project's own).
 pub record IsCounted (stores : Kept) (next : Key) : Type 0 where
   pub actions : List Action
-  pub stands : StandsFor stores actions
+  pub stands : StoresStand stores actions
   pub few : length actions ≤ next.seq
   pub below : AreDrainedBelow next stores.held
 

@@ -16,9 +16,9 @@ use Rattle.dt_reference.specs.HartActions.{body_action, width_of, reads_memory}
 use Rattle.dt_reference.specs.Meaning.{meaning_of}
 use Rattle.dt_sources.specs.Knowing.{write_key, covering_key}
 use Rattle.dt_step.specs.declared.state.Arch.{Arch}
-use Rattle.dt_stores.specs.Standing.{StandsFor as Keeps}
+use Rattle.dt_stores.specs.Standing.{StoresStand}
 use Rattle.dt_windows.specs.Fences.{Fence}
-use Rattle.dt_windows.specs.Kept.{WindowsView, StandsFor as KeepsFences}
+use Rattle.dt_windows.specs.Kept.{WindowsView, FencesStand}
 use Rattle.dt_hart.specs.declared.accesses.Accesses.{Accesses}
 use Rattle.dt_hart.specs.Fences.{fence_by}
 use Rattle.dt_hart.specs.Taking.{IsDrained}
@@ -50,8 +50,8 @@ floor_asked last action = 0
 
 -- the accesses go on by a record
 pub record Follows (old new : Accesses) (key : Key) (body : Body) (sources : Sources) : Type 0 where
-  pub stores : (actions : List Action) → Keeps old.stores actions → IsDrained actions body
-      → Keeps new.stores (actions ++ option_to_list (body_action key body))
+  pub stores : (actions : List Action) → StoresStand old.stores actions → IsDrained actions body
+      → StoresStand new.stores (actions ++ option_to_list (body_action key body))
   pub keys : (byte : ℕ) → newest_of new.local byte ≡ greater (newest_of old.local byte) (noted_by key body sources byte)
   pub floor : new.floor ≡ max old.floor (floor_asked old.last_read (body_action key body))
   pub last_read : new.last_read ≡ max old.last_read (last_read (option_to_list (body_action key body)))
@@ -61,7 +61,7 @@ abbrev pub known_in : LocalMemory → LocalMemory
 known_in l = record l { reserved = None }
 
 -- what later accesses ask for is the same
-pub record IsKept (old new : Accesses) : Type 0 where
+pub record KeepsAccesses (old new : Accesses) : Type 0 where
   pub stores : new.stores ≡ old.stores
   pub keys : new.local.keys ≡ old.local.keys
   pub local : known_in new.local ≡ known_in old.local
@@ -72,4 +72,4 @@ pub record IsKept (old new : Accesses) : Type 0 where
 -- stands for them and the record's.
 abbrev pub FollowsFences : WindowsView → WindowsView → Arch → (seq : ℕ) → Record → Type 0
 FollowsFences old new a seq r = (fences : List Fence) → IsTrue (list_all (λ f. key_below f.key (key_of seq r)) fences)
-    → KeepsFences old fences → KeepsFences new (fences ++ option_to_list (fence_by a seq r))
+    → FencesStand old fences → FencesStand new (fences ++ option_to_list (fence_by a seq r))

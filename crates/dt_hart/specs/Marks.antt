@@ -10,7 +10,7 @@ use Rattle.dt_hart.specs.Counting.{IsCounted}
 use Rattle.dt_hart.specs.Following.{known_in}
 use Rattle.dt_hart.specs.HartView.{HartView}
 use Rattle.dt_hart.specs.Settings.{Setting}
-use Rattle.dt_hart.specs.Standing.{StandsFor}
+use Rattle.dt_hart.specs.Standing.{HartStands}
 
 -- A mark of a hart has the marks of its parts, and what changes without a step (this project's own).
 
@@ -111,5 +111,5 @@ pub record MarksGoOn : Type 0 where
       → IsLive (stood_at h to) m × AreAlike (stood_at h m) (stood_at (stood_at h to) m)
   pub forgotten_before : (h : HartView) (to m : HartMark) → IsLive h to → IsLive h m → IsNotLater to m
       → IsLive (forgotten h to) m × AreAlike (stood_at h m) (stood_at (forgotten h to) m)
-  pub stands : (h other : HartView) (s : Setting) → AreAlike h other → StandsFor h s → StandsFor other s
+  pub stands : (h other : HartView) (s : Setting) → AreAlike h other → HartStands h s → HartStands other s
   pub sound : (h other : HartView) → AreAlike h other → IsSound h → IsSound other

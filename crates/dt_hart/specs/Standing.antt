@@ -8,8 +8,8 @@ use Rattle.dt_record.specs.Keys.{key_below}
 use Rattle.dt_record.specs.LoadSources.{AreLeastSources}
 use Rattle.dt_local.specs.LocalMemory.{local_memory}
 use Rattle.dt_sources.specs.Knowing.{Knows, AreJudged}
-use Rattle.dt_stores.specs.Standing.{StandsFor as Keeps}
-use Rattle.dt_windows.specs.Kept.{StandsFor as KeepsFences}
+use Rattle.dt_stores.specs.Standing.{StoresStand}
+use Rattle.dt_windows.specs.Kept.{FencesStand}
 use Rattle.dt_hart.specs.Fences.{fences_of}
 use Rattle.dt_hart.specs.HartView.{HartView}
 use Rattle.dt_hart.specs.OwnWrites.{GoesOn}
@@ -19,18 +19,18 @@ use Rattle.dt_hart.specs.Taking.{WasJudged}
 
 -- What is kept of a hart stands for a setting (this project's own): it is what the hart's records before leave, and the
 -- loads among these read at the moments of the least fitting assignment.
-pub record StandsFor (h : HartView) (s : Setting) : Type 0 where
+pub record HartStands (h : HartView) (s : Setting) : Type 0 where
   pub seq : h.seq ≡ length s.before
   pub stamp : h.stamp ≡ last_stamp s.before
   pub arch : h.arch ≡ arch_of s
-  pub stores : Keeps h.stores (did s)
+  pub stores : StoresStand h.stores (did s)
   pub knows : Knows (local_memory h.keys None) s.writes (did s) s.moments (next_key s)
   pub chosen : AreLeastSources s.image s.writes (did s) s.moments
   pub judged : AreJudged s.writes (did s) (next_key s)
   pub floor : h.floor ≡ order_floor (did s)
   pub last_read : h.last_read ≡ last_read (did s)
   pub reserved : h.reserved ≡ reserved_in s.before
-  pub windows : KeepsFences h.windows (fences_of s)
+  pub windows : FencesStand h.windows (fences_of s)
 
 -- what local memory and the store buffer know at a next record
 pub record KnowsAt (h : HartView) (s : Setting) (next : Key) : Type 0 where
@@ -40,13 +40,13 @@ pub record KnowsAt (h : HartView) (s : Setting) (next : Key) : Type 0 where
 -- The hart goes on by a record with these sources: whatever records it stood for that go on with this one, it stands for
 -- them and the record.
 abbrev pub GoesOnWith : HartView → HartView → Record → Sources → Type 0
-GoesOnWith old new r sources = (s : Setting) (moment : ℕ) → StandsFor old s → GoesOn s r → WasJudged s r moment sources
-    → StandsFor new (after s r moment)
+GoesOnWith old new r sources = (s : Setting) (moment : ℕ) → HartStands old s → GoesOn s r → WasJudged s r moment sources
+    → HartStands new (after s r moment)
 
 -- A law: what stands for a setting knows what it has to at the key of the next record, since no own write stands
 -- between the least key that this may have and its own.
 abbrev pub KnowsAtNext : Type 0
-KnowsAtNext = (h : HartView) (s : Setting) (r : Record) → StandsFor h s → GoesOn s r → KnowsAt h s (key_in s r)
+KnowsAtNext = (h : HartView) (s : Setting) (r : Record) → HartStands h s → GoesOn s r → KnowsAt h s (key_in s r)
 
 -- A law: the fences of a hart's records stand before its next record.
 abbrev pub FencesAreEarlier : Type 0

@@ -79,10 +79,10 @@ ReadsAtKey writes key addr width sources =
     (i : ℕ) → i < width → slice_get sources.from i ≡ Some (origin_of_key (source_at writes (moment_of writes key) (addr + i)))
 
 -- an action that is a load from RAM, or an LR or AMO, did
-abbrev pub IsRead : Setting → Option Action → (moment : ℕ) → Sources → Type 0
-IsRead s (Some (Loaded ask)) moment sources = ReadsLeast s ask moment sources
-IsRead s (Some (Atomic key addr width reads acquires)) moment sources = IsTrue reads → ReadsAtKey s.writes key addr width sources
-IsRead s action moment sources = Unit {0}
+abbrev pub WasRead : Setting → Option Action → (moment : ℕ) → Sources → Type 0
+WasRead s (Some (Loaded ask)) moment sources = ReadsLeast s ask moment sources
+WasRead s (Some (Atomic key addr width reads acquires)) moment sources = IsTrue reads → ReadsAtKey s.writes key addr width sources
+WasRead s action moment sources = Unit {0}
 
 -- a drain after some actions of its hart takes its stores, and its mask and bytes are theirs
 abbrev pub IsDrained : List Action → Body → Type 0
@@ -92,5 +92,5 @@ IsDrained actions body = Unit {0}
 -- What was found when the record was judged: the moment at which a load from RAM read, and where the bytes of a load, an LR
 -- or an AMO come from.
 pub record WasJudged (s : Setting) (r : Record) (moment : ℕ) (sources : Sources) : Type 0 where
-  pub is_read : IsRead s (does s r) moment sources
+  pub is_read : WasRead s (does s r) moment sources
   pub is_drained : IsDrained (did s) r.body

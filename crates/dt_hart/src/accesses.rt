@@ -10,9 +10,9 @@ ghost use Rattle.dt_sources.specs.Knowing.{covering_key};
 ghost use Rattle.dt_stores.specs.declared.answers.DrainAnswer.TheVariants as answer;
 ghost use Rattle.dt_stores.specs.Draining.{drain_answer};
 ghost use Rattle.dt_stores.specs.GoingOn.{AreDrainedBelow};
-ghost use Rattle.dt_stores.specs.Standing.{GainsAction, StandsFor as Keeps};
+ghost use Rattle.dt_stores.specs.Standing.{GainsAction, StoresStand};
 ghost use Rattle.dt_hart.specs.Counting.{CountsOn};
-ghost use Rattle.dt_hart.specs.Following.{Follows, IsKept, read_key};
+ghost use Rattle.dt_hart.specs.Following.{Follows, KeepsAccesses, read_key};
 ghost use Rattle.dt_hart.specs.Marks.{KeepsAccessMarks};
 ghost use Rattle.dt_hart.specs.Taking.{is_placed, is_access_place, is_fenced};
 
@@ -46,7 +46,7 @@ impl Accesses {
         ensures follows { OnOk result (Follows self.old self.new (key_of seq event.now) event.now.body sources) }
         ensures counted { OnOk result (CountsOn (key_of seq event.now) self.old.stores self.new.stores) }
         ensures marks { OnOk result (KeepsAccessMarks self.old self.new) }
-        ensures unchanged { OnErr result (IsKept self.old self.new) }
+        ensures unchanged { OnErr result (KeepsAccesses self.old self.new) }
     {
         loads_keep_stores();
         atomics_keep_stores();
@@ -118,7 +118,7 @@ impl Accesses {
         ensures floor { self.new.floor ≡ self.old.floor }
         ensures last_read { OnOk result (self.new.last_read ≡ max self.old.last_read at) }
         ensures marks { OnOk result (KeepsAccessMarks self.old self.new) }
-        ensures unchanged { OnErr result (IsKept self.old self.new) }
+        ensures unchanged { OnErr result (KeepsAccesses self.old self.new) }
     {
         note_read(&mut self.local, addr, &sources.from[..usize::from(width)])?;
         self.last_read = self.last_read.max(at);
@@ -143,7 +143,7 @@ impl Accesses {
         ensures floor { OnOk result (self.new.floor ≡ max self.old.floor (if order.acquires then stamp else 0)) }
         ensures last_read { OnOk result (self.new.last_read ≡ max self.old.last_read (if order.reads then stamp else 0)) }
         ensures marks { OnOk result (KeepsAccessMarks self.old self.new) }
-        ensures unchanged { OnErr result (IsKept self.old self.new) }
+        ensures unchanged { OnErr result (KeepsAccesses self.old self.new) }
     {
         let from = &sources.from[..usize::from(width)];
         note_atomic(&mut self.local, own, order.reads, addr, from)?;
@@ -156,16 +156,16 @@ impl Accesses {
     fn take_drain(&mut self, key: Key, line: u64, mask: u64, count: u16) -> Result<(), AllocError>
         requires line { IsTrue (is_ram_line line) }
         requires below { AreDrainedBelow key self.old.stores.held }
-        ensures stores { OnOk result ((actions : List Action) (taken : ℕ) (bytes : List ℕ) → Keeps self.old.stores actions
+        ensures stores { OnOk result ((actions : List Action) (taken : ℕ) (bytes : List ℕ) → StoresStand self.old.stores actions
             → drain_answer actions line count ≡ answer.Took taken bytes
-            → Keeps self.new.stores (actions ++ Drained key line count ∷ [])) }
+            → StoresStand self.new.stores (actions ++ Drained key line count ∷ [])) }
         ensures counted { OnOk result (CountsOn key self.old.stores self.new.stores) }
         ensures noted { OnOk result ((byte : ℕ) → newest_of self.new.local byte ≡ greater (newest_of self.old.local byte)
             (if is_noted line mask byte then Some key else None)) }
         ensures floor { self.new.floor ≡ self.old.floor }
         ensures last_read { self.new.last_read ≡ self.old.last_read }
         ensures marks { OnOk result (KeepsAccessMarks self.old self.new) }
-        ensures unchanged { OnErr result (IsKept self.old self.new) }
+        ensures unchanged { OnErr result (KeepsAccesses self.old self.new) }
     {
         drains_stay_below();
         self.local.reserve(line, mask)?;

@@ -6,7 +6,7 @@ ghost use Rattle.dt_reference.specs.HartActions.{action_of};
 ghost use Rattle.dt_step.specs.State.{IsArch};
 ghost use Rattle.dt_hart.specs.Counting.{IsCounted, key_after};
 ghost use Rattle.dt_hart.specs.Fences.{is_ordering, ordering_in};
-ghost use Rattle.dt_hart.specs.Following.{Follows, FollowsFences, IsKept};
+ghost use Rattle.dt_hart.specs.Following.{Follows, FollowsFences, KeepsAccesses};
 ghost use Rattle.dt_hart.specs.Marks.{KeepsAccessMarks};
 ghost use Rattle.dt_hart.specs.Taking.{is_placed};
 ghost use Rattle.dt_windows.specs.Marks.{KeepsMarks as KeepsWindowsMarks};
@@ -40,7 +40,7 @@ pub fn take_effects(
     ensures counted { OnOk result (IsCounted accesses.new.stores (key_after (key_of seq event.now))) }
     ensures marks { OnOk result (KeepsAccessMarks accesses.old accesses.new) }
     ensures windows_marks { OnOk result (KeepsWindowsMarks windows.old windows.new) }
-    ensures unchanged { OnErr result (IsKept accesses.old accesses.new) }
+    ensures unchanged { OnErr result (KeepsAccesses accesses.old accesses.new) }
     ensures windows_unchanged { OnErr result (windows.new ≡ windows.old) }
 {
     drains_stay_below();

@@ -8,7 +8,7 @@ ghost use Rattle.dt_reference.specs.Run.{CanFollow, after_record};
 ghost use Rattle.dt_step.specs.State.{IsArch, IsReachable};
 ghost use Rattle.dt_hart.specs.Marks.{KeepsMarks};
 ghost use Rattle.dt_hart.specs.Settings.{at_first};
-ghost use Rattle.dt_hart.specs.Standing.{GoesOnWith, StandsFor};
+ghost use Rattle.dt_hart.specs.Standing.{GoesOnWith, HartStands};
 ghost use Rattle.dt_hart.specs.Taking.{AreFoundOf, is_placed};
 
 use crate::accesses::Accesses;
@@ -69,7 +69,7 @@ impl Hart {
     /// The hart with this number after a reset, in a file that does or does not let harts use Sv48.
     pub fn new(alloc: Global, number: u8, wide: bool) -> Hart
         ensures stands { (image : List ℕ) (writes : List Write) (moments : ℕ → ℕ)
-            → StandsFor result (at_first image writes number wide moments) }
+            → HartStands result (at_first image writes number wide moments) }
         ensures number { result.arch.hart ≡ number }
         ensures first { (result.seq ≡ 0) × (result.stamp ≡ 0) }
     {

@@ -1,7 +1,7 @@
 ghost use Rattle.std.specs.Prelude.{◌≡◌, IfOk};
 ghost use Rattle.dt_hart.specs.Marks.{IsLive, IsSound, MarksGoOn, forgotten, marked, stood_at, without_past};
 ghost use Rattle.dt_hart.specs.Settings.{Setting};
-ghost use Rattle.dt_hart.specs.Standing.{StandsFor};
+ghost use Rattle.dt_hart.specs.Standing.{HartStands};
 
 use crate::accesses::Accesses;
 use crate::harts::Hart;
@@ -29,7 +29,7 @@ impl Hart {
         ensures live { IsLive self.new result }
         ensures here { stood_at self.new result ≡ self.new }
         ensures kept { self.new ≡ marked self.old }
-        ensures stands { (s : Setting) → StandsFor self.old s → StandsFor self.new s }
+        ensures stands { (s : Setting) → HartStands self.old s → HartStands self.new s }
         ensures sound { IsSound self.new }
     {
         HartMark {
@@ -66,7 +66,7 @@ impl Hart {
     pub fn forget(&mut self, m: HartMark)
         requires { IsLive self.old m }
         ensures value { self.new ≡ forgotten self.old m }
-        ensures stands { (s : Setting) → StandsFor self.old s → StandsFor self.new s }
+        ensures stands { (s : Setting) → HartStands self.old s → HartStands self.new s }
     {
         self.accesses.stores.forget(m.stores);
         self.accesses.local.forget(m.local);
@@ -76,7 +76,7 @@ impl Hart {
     /// A hart that stands for the same, without a past.
     pub fn copy(&self, alloc: Global) -> Result<Hart, AllocError>
         ensures value { IfOk result (λ h. h ≡ without_past self.now) }
-        ensures stands { IfOk result (λ h. (s : Setting) → StandsFor self.now s → StandsFor h s) }
+        ensures stands { IfOk result (λ h. (s : Setting) → HartStands self.now s → HartStands h s) }
     {
         let stores = self.accesses.stores.copy(alloc)?;
         let local = self.accesses.local.copy(alloc)?;

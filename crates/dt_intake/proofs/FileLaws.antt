@@ -4,6 +4,7 @@ use Rattle.std.proofs.lemmas.Bool.{cases_Bool, cond-true, cond-false, eqb-false,
 use Rattle.std.proofs.lemmas.List.{append_assoc, append-nil, take-append-drop}
 use Rattle.std.proofs.lemmas.List.Elements.{filter-append}
 use mathlib.Core.List.{IsPrefix}
+use Rattle.dt_lists.proofs.Lists.{filter-kept, filter-dropped, filter-within}
 use Rattle.dt_record.specs.declared.limits.TheConstants.{RECORD_LIMIT}
 use Rattle.dt_record.specs.declared.records.Record.{Record}
 use Rattle.dt_record.specs.declared.writes.Write.{Write}
@@ -12,12 +13,11 @@ use Rattle.dt_record.specs.ProbeFile.{AreRecords, stamped, no_stamps}
 use Rattle.dt_writes.specs.OwnWrites.{own_writes_from}
 use Rattle.dt_core.specs.Notes.{announced, hart_writes, writes_below}
 use Rattle.dt_core.specs.Sound.{writes_by}
-use Rattle.dt_intake.specs.Fronts.{last_stamp, MayBeNext, front_after, usable_front}
+use Rattle.dt_intake.specs.Fronts.{stamp_after, MayBeNext, front_after, usable_front}
 use Rattle.dt_intake.specs.Intakes.{IntakeView, usable_of}
 use Rattle.dt_intake.specs.Told.{told_of, IsMarked}
 use Rattle.dt_intake.specs.Laws.{FileRecordsAreUsable, ToldIsAnnounced}
 use Rattle.dt_intake.proofs.FrontLaws.{last_stamp-push, may_be_next-true, front_after-pass, front_after-begins, front_after-behind, late-front_after, own-front_after}
-use Rattle.dt_intake.proofs.Splits.{filter-pass, filter-drop}
 use Rattle.dt_intake.proofs.WriteLaws.{own_writes_from-append, own_writes_from-parts, below-own_writes_from, own-writes_by}
 
 -- What notes tell of a hart whose records are those of a file.
@@ -29,7 +29,7 @@ front-records_of harts hart seq stamp last [] each is few = refl
 front-records_of harts hart seq stamp last (r ∷ rs) each is few = elim (cases_Bool (r.hart == hart)) [
   | inl own ↦
       let same : r.hart ≡ hart = eqb-true r.hart hart own in
-      let pass : records_of hart (r ∷ rs) ≡ r ∷ records_of hart rs = filter-pass (λ (q : Record). q.hart == hart) r rs own in
+      let pass : records_of hart (r ∷ rs) ≡ r ∷ records_of hart rs = filter-kept (λ (q : Record). q.hart == hart) r rs own in
       let count : length (records_of hart (r ∷ rs)) ≡ suc (length (records_of hart rs)) = ap length pass in
       let here : stamped last r hart ≡ r.stamp = cond-true (hart == r.hart) r.stamp (last hart) (eq-eqb hart r.hart (sym same)) in
       let before : last hart ≤ r.stamp = subst (λ (h : ℕ). last h ≤ r.stamp) same each.0.stamp in
@@ -39,7 +39,7 @@ front-records_of harts hart seq stamp last (r ∷ rs) each is few = elim (cases_
       ∙ ap (λ (l : List Record). r ∷ l) (front-records_of harts hart (seq + 1) r.stamp (stamped last r) rs each.1 (sym here) (omega arith))
       ∙ sym pass
   | inr other ↦
-      let none : records_of hart (r ∷ rs) ≡ records_of hart rs = filter-drop (λ (q : Record). q.hart == hart) r rs other in
+      let none : records_of hart (r ∷ rs) ≡ records_of hart rs = filter-dropped (λ (q : Record). q.hart == hart) r rs other in
       let count : length (records_of hart (r ∷ rs)) ≡ length (records_of hart rs) = ap length none in
       let still : stamped last r hart ≡ last hart =
       cond-false (hart == r.hart) r.stamp (last hart) (ne_eqb hart r.hart (λ same. eqb-false r.hart hart other (sym same))) in
@@ -48,17 +48,10 @@ front-records_of harts hart seq stamp last (r ∷ rs) each is few = elim (cases_
       ∙ sym none
 ]
 
-length-filter : {X : Type 0} (p : X → Bool) (xs : List X) → length (filter p xs) ≤ length xs
-length-filter p [] = omega arith
-length-filter p (x ∷ xs) = elim (cases_Bool (p x)) [
-  | inl passes ↦ let more = ap length (filter-pass p x xs passes) in let rest = length-filter p xs in omega arith
-  | inr fails ↦ let same = ap length (filter-drop p x xs fails) in let rest = length-filter p xs in omega arith
-]
-
 usable-records_of : (harts hart : ℕ) (file : List Record) → AreRecords harts no_stamps file → length file ≤ RECORD_LIMIT
     → front_after hart 0 0 (records_of hart file) ≡ records_of hart file
 usable-records_of harts hart file each few =
-    let size : length (records_of hart file) ≤ length file = length-filter (λ (r : Record). r.hart == hart) file in
+    let size : length (records_of hart file) ≤ length file = filter-within (λ (r : Record). r.hart == hart) file in
     front-records_of harts hart 0 0 no_stamps file each refl (omega arith)
 
 -- the first of usable records are
@@ -82,12 +75,12 @@ own-from_front hart rs whole =
     own-writes_by hart rs (ap (list_all (λ (r : Record). r.hart == hart)) (sym whole) ∙ own-front_after hart 0 0 rs)
 
 -- where the first of usable records end with one of this cycle, those behind write nothing below it
-below-front : (hart stamp : ℕ) (first rest : List Record) → front_after hart 0 0 (first ++ rest) ≡ first ++ rest → last_stamp 0 first ≡ stamp
+below-front : (hart stamp : ℕ) (first rest : List Record) → front_after hart 0 0 (first ++ rest) ≡ first ++ rest → stamp_after 0 first ≡ stamp
     → writes_below stamp (own_writes_from 0 first) ≡ writes_below stamp (writes_by (first ++ rest))
 below-front hart stamp first rest usable last =
     let behind = front_after-behind hart 0 0 first rest usable in
     let late = ap (list_all (λ (r : Record). nat_le stamp r.stamp)) (sym behind)
-    ∙ late-front_after stamp hart (0 + length first) (last_stamp 0 first) rest (omega arith) in
+    ∙ late-front_after stamp hart (0 + length first) (stamp_after 0 first) rest (omega arith) in
     let more = own_writes_from (0 + length first) rest in
     let none : writes_below stamp more ≡ [] = below-own_writes_from stamp (0 + length first) rest late in
     sym (ap (writes_below stamp) (own-from_front hart (first ++ rest) usable ∙ own_writes_from-append 0 first rest)

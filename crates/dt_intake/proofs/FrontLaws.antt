@@ -5,26 +5,27 @@ use Rattle.std.proofs.lemmas.Bool.{and_parts, and_from, both_ways, cases_Bool, c
 use Rattle.std.proofs.lemmas.List.{append-nil, append_cancel_left, length-append, length_push, nil_from_length}
 use Rattle.std.proofs.lemmas.List.Elements.{All-nil, All-cons}
 use mathlib.Core.List.{IsPrefix}
+use Rattle.dt_lists.proofs.Lists.{not_last}
 use Rattle.dt_record.specs.declared.limits.TheConstants.{RECORD_LIMIT}
 use Rattle.dt_record.specs.declared.records.Record.{Record}
 use Rattle.dt_record.specs.Lawful.{is_lawful, IsLawful}
-use Rattle.dt_intake.specs.Fronts.{last_stamp, MayBeNext, may_be_next, AreUsable, front_after, usable_front}
+use Rattle.dt_intake.specs.Fronts.{stamp_after, MayBeNext, may_be_next, AreUsable, front_after, usable_front}
 use Rattle.dt_intake.specs.Laws.{UsableFrontIsLongest}
-use Rattle.dt_intake.proofs.Splits.{prefix-length, not_last, last-split, last-none}
+use Rattle.dt_intake.proofs.Splits.{prefix-length, last-split, last-none}
 
 -- The usable front of records.
 
-pub last_stamp-push : (stamp : ℕ) (rs : List Record) (r : Record) → last_stamp stamp (rs ++ r ∷ []) ≡ r.stamp
+pub last_stamp-push : (stamp : ℕ) (rs : List Record) (r : Record) → stamp_after stamp (rs ++ r ∷ []) ≡ r.stamp
 last_stamp-push stamp [] r = refl
 last_stamp-push stamp (q ∷ qs) r = last_stamp-push q.stamp qs r
 
-pub last_stamp-some : (stamp : ℕ) (rs : List Record) (r : Record) → slice_get rs (length rs - 1) ≡ Some r → last_stamp stamp rs ≡ r.stamp
+pub last_stamp-some : (stamp : ℕ) (rs : List Record) (r : Record) → slice_get rs (length rs - 1) ≡ Some r → stamp_after stamp rs ≡ r.stamp
 last_stamp-some stamp rs r found =
     let parts = last-split rs r found in
-    ap (last_stamp stamp) parts.split ∙ last_stamp-push stamp parts.first r
+    ap (stamp_after stamp) parts.split ∙ last_stamp-push stamp parts.first r
 
-pub last_stamp-none : (stamp : ℕ) (rs : List Record) → slice_get rs (length rs - 1) ≡ None → last_stamp stamp rs ≡ stamp
-last_stamp-none stamp rs none = ap (last_stamp stamp) (last-none rs none)
+pub last_stamp-none : (stamp : ℕ) (rs : List Record) → slice_get rs (length rs - 1) ≡ None → stamp_after stamp rs ≡ stamp
+last_stamp-none stamp rs none = ap (stamp_after stamp) (last-none rs none)
 
 -- the test says what it is to say
 
@@ -130,7 +131,7 @@ front_after-grows hart seq stamp (x ∷ xs) ys = elim (cases_Bool (may_be_next h
 ]
 
 pub front_after-append : (hart seq stamp : ℕ) (xs ys : List Record) → front_after hart seq stamp xs ≡ xs
-    → front_after hart seq stamp (xs ++ ys) ≡ xs ++ front_after hart (seq + length xs) (last_stamp stamp xs) ys
+    → front_after hart seq stamp (xs ++ ys) ≡ xs ++ front_after hart (seq + length xs) (stamp_after stamp xs) ys
 front_after-append hart seq stamp [] ys whole = ap (λ (n : ℕ). front_after hart n stamp ys) (let plain : seq ≡ seq + 0 = omega arith in plain)
 front_after-append hart seq stamp (x ∷ xs) ys whole = elim (cases_Bool (may_be_next hart seq stamp x)) [
   | inl passes ↦
@@ -139,7 +140,7 @@ front_after-append hart seq stamp (x ∷ xs) ys whole = elim (cases_Bool (may_be
       let count : seq + 1 + length xs ≡ seq + suc (length xs) = omega arith in
       front_after-pass hart seq stamp x (xs ++ ys) passes
       ∙ ap (λ (l : List Record). x ∷ l) (front_after-append hart (seq + 1) x.stamp xs ys rest
-      ∙ ap (λ (n : ℕ). xs ++ front_after hart n (last_stamp x.stamp xs) ys) count)
+      ∙ ap (λ (n : ℕ). xs ++ front_after hart n (stamp_after x.stamp xs) ys) count)
   | inr stops ↦
       let bad : [] ≡ x ∷ xs = sym (front_after-stop hart seq stamp x xs stops) ∙ whole in
       absurd (let never : ⊥ = cc in never)
@@ -181,48 +182,48 @@ front_after-begins hart seq stamp (x ∷ xs) ys whole = elim (cases_Bool (may_be
 
 -- and those behind them may come next after them
 pub front_after-behind : (hart seq stamp : ℕ) (xs ys : List Record) → front_after hart seq stamp (xs ++ ys) ≡ xs ++ ys
-    → front_after hart (seq + length xs) (last_stamp stamp xs) ys ≡ ys
+    → front_after hart (seq + length xs) (stamp_after stamp xs) ys ≡ ys
 front_after-behind hart seq stamp xs ys whole =
-    append_cancel_left xs (front_after hart (seq + length xs) (last_stamp stamp xs) ys) ys
+    append_cancel_left xs (front_after hart (seq + length xs) (stamp_after stamp xs) ys) ys
     (sym (front_after-append hart seq stamp xs ys (front_after-begins hart seq stamp xs ys whole)) ∙ whole)
 
 -- one more record
 
 pub usable_len-more : (hart : ℕ) (taken : List Record) (r : Record) (n : ℕ) → n ≡ length (usable_front hart taken)
-    → ((n == length taken) && may_be_next hart n (last_stamp 0 taken) r) ≡ true → n + 1 ≡ length (usable_front hart (taken ++ r ∷ []))
+    → ((n == length taken) && may_be_next hart n (stamp_after 0 taken) r) ≡ true → n + 1 ≡ length (usable_front hart (taken ++ r ∷ []))
 usable_len-more hart taken r n is goes =
-    let parts = and_parts (n == length taken) (may_be_next hart n (last_stamp 0 taken) r) goes in
+    let parts = and_parts (n == length taken) (may_be_next hart n (stamp_after 0 taken) r) goes in
     let all : n ≡ length taken = eqb-true n (length taken) parts.0 in
     let count : n ≡ 0 + length taken = omega arith in
-    let passes : may_be_next hart (0 + length taken) (last_stamp 0 taken) r ≡ true = ap (λ (k : ℕ). may_be_next hart k (last_stamp 0 taken) r) (sym count) ∙ parts.1 in
+    let passes : may_be_next hart (0 + length taken) (stamp_after 0 taken) r ≡ true = ap (λ (k : ℕ). may_be_next hart k (stamp_after 0 taken) r) (sym count) ∙ parts.1 in
     let grown = front_after-append hart 0 0 taken (r ∷ []) (front_after-whole hart 0 0 taken (sym is ∙ all))
-    ∙ ap (λ (l : List Record). taken ++ l) (front_after-pass hart (0 + length taken) (last_stamp 0 taken) r [] passes) in
+    ∙ ap (λ (l : List Record). taken ++ l) (front_after-pass hart (0 + length taken) (stamp_after 0 taken) r [] passes) in
     let long : length (usable_front hart (taken ++ r ∷ [])) ≡ length (taken ++ r ∷ []) = ap length grown in
     omega (arith, length_push taken r)
 
 pub usable_len-same : (hart : ℕ) (taken : List Record) (r : Record) (n : ℕ) → n ≡ length (usable_front hart taken)
-    → ((n == length taken) && may_be_next hart n (last_stamp 0 taken) r) ≡ false → n ≡ length (usable_front hart (taken ++ r ∷ []))
+    → ((n == length taken) && may_be_next hart n (stamp_after 0 taken) r) ≡ false → n ≡ length (usable_front hart (taken ++ r ∷ []))
 usable_len-same hart taken r n is stays = elim (cases_lt n (length taken)) [
   | inl short ↦ is ∙ ap length (sym (front_after-short hart 0 0 taken (r ∷ []) (omega arith)))
   | inr full ↦
       let few = prefix-length (usable_front hart taken) taken (front_after-first hart 0 0 taken) in
       let all : n ≡ length taken = omega arith in
       let count : n ≡ 0 + length taken = omega arith in
-      let stops : may_be_next hart (0 + length taken) (last_stamp 0 taken) r ≡ false = elim (cases_Bool (may_be_next hart n (last_stamp 0 taken) r)) [
+      let stops : may_be_next hart (0 + length taken) (stamp_after 0 taken) r ≡ false = elim (cases_Bool (may_be_next hart n (stamp_after 0 taken) r)) [
         | inl passes ↦
-            let goes = and_from (n == length taken) (may_be_next hart n (last_stamp 0 taken) r) (eq-eqb n (length taken) all) passes in
-            absurd (both_ways ((n == length taken) && may_be_next hart n (last_stamp 0 taken) r) stays goes)
-        | inr fails ↦ ap (λ (k : ℕ). may_be_next hart k (last_stamp 0 taken) r) (sym count) ∙ fails
+            let goes = and_from (n == length taken) (may_be_next hart n (stamp_after 0 taken) r) (eq-eqb n (length taken) all) passes in
+            absurd (both_ways ((n == length taken) && may_be_next hart n (stamp_after 0 taken) r) stays goes)
+        | inr fails ↦ ap (λ (k : ℕ). may_be_next hart k (stamp_after 0 taken) r) (sym count) ∙ fails
       ] in
       let same = front_after-append hart 0 0 taken (r ∷ []) (front_after-whole hart 0 0 taken (sym is ∙ all))
-      ∙ ap (λ (l : List Record). taken ++ l) (front_after-stop hart (0 + length taken) (last_stamp 0 taken) r [] stops) ∙ append-nil taken in
+      ∙ ap (λ (l : List Record). taken ++ l) (front_after-stop hart (0 + length taken) (stamp_after 0 taken) r [] stops) ∙ append-nil taken in
       all ∙ sym (ap length same)
 ]
 
 -- the longest front
 
 next-at : (hart seq stamp : ℕ) (rs before after : List Record) (r : Record) → front_after hart seq stamp rs ≡ before ++ r ∷ after
-    → may_be_next hart (seq + length before) (last_stamp stamp before) r ≡ true
+    → may_be_next hart (seq + length before) (stamp_after stamp before) r ≡ true
 next-at hart seq stamp [] before after r is = absurd (not_last before after r is)
 next-at hart seq stamp (q ∷ qs) [] after r is = elim (cases_Bool (may_be_next hart seq stamp q)) [
   | inl passes ↦
@@ -238,8 +239,8 @@ next-at hart seq stamp (q ∷ qs) (b ∷ bs) after r is = elim (cases_Bool (may_
       let first : b ≡ q = cc in
       let rest : front_after hart (seq + 1) q.stamp qs ≡ bs ++ r ∷ after = cc in
       let count : seq + suc (length bs) ≡ seq + 1 + length bs = omega arith in
-      ap (λ (n : ℕ). may_be_next hart n (last_stamp b.stamp bs) r) count
-      ∙ ap (λ (p : Record). may_be_next hart (seq + 1 + length bs) (last_stamp p.stamp bs) r) first
+      ap (λ (n : ℕ). may_be_next hart n (stamp_after b.stamp bs) r) count
+      ∙ ap (λ (p : Record). may_be_next hart (seq + 1 + length bs) (stamp_after p.stamp bs) r) first
       ∙ next-at hart (seq + 1) q.stamp qs bs after r rest
   | inr stops ↦ absurd (not_last (b ∷ bs) after r (sym (front_after-stop hart seq stamp q qs stops) ∙ is))
 ]
@@ -247,11 +248,11 @@ next-at hart seq stamp (q ∷ qs) (b ∷ bs) after r is = elim (cases_Bool (may_
 pub AreUsable-front : (hart : ℕ) (taken : List Record) → AreUsable hart (usable_front hart taken)
 AreUsable-front hart taken before after r is =
     let plain : 0 + length before ≡ length before = omega arith in
-    MayBeNext-test hart (length before) (last_stamp 0 before) r
-    (ap (λ (n : ℕ). may_be_next hart n (last_stamp 0 before) r) (sym plain) ∙ next-at hart 0 0 taken before after r is)
+    MayBeNext-test hart (length before) (stamp_after 0 before) r
+    (ap (λ (n : ℕ). may_be_next hart n (stamp_after 0 before) r) (sym plain) ∙ next-at hart 0 0 taken before after r is)
 
 front_after-each : (hart seq stamp : ℕ) (rs : List Record)
-    → ((before after : List Record) (r : Record) → rs ≡ before ++ r ∷ after → may_be_next hart (seq + length before) (last_stamp stamp before) r ≡ true)
+    → ((before after : List Record) (r : Record) → rs ≡ before ++ r ∷ after → may_be_next hart (seq + length before) (stamp_after stamp before) r ≡ true)
     → front_after hart seq stamp rs ≡ rs
 front_after-each hart seq stamp [] each = refl
 front_after-each hart seq stamp (q ∷ qs) each =
@@ -260,15 +261,15 @@ front_after-each hart seq stamp (q ∷ qs) each =
     front_after-pass hart seq stamp q qs passes
     ∙ ap (λ (l : List Record). q ∷ l) (front_after-each hart (seq + 1) q.stamp qs (λ before after r is.
     let count : seq + 1 + length before ≡ seq + suc (length before) = omega arith in
-    ap (λ (n : ℕ). may_be_next hart n (last_stamp q.stamp before) r) count ∙ each (q ∷ before) after r (ap (λ (l : List Record). q ∷ l) is)))
+    ap (λ (n : ℕ). may_be_next hart n (stamp_after q.stamp before) r) count ∙ each (q ∷ before) after r (ap (λ (l : List Record). q ∷ l) is)))
 
 longest : (hart : ℕ) (taken other : List Record) → IsPrefix other taken → AreUsable hart other → IsPrefix other (usable_front hart taken)
 longest hart taken other first usable =
     let whole : front_after hart 0 0 other ≡ other = front_after-each hart 0 0 other (λ before after r is.
     let plain : 0 + length before ≡ length before = omega arith in
-    ap (λ (n : ℕ). may_be_next hart n (last_stamp 0 before) r) plain
-    ∙ may_be_next-true hart (length before) (last_stamp 0 before) r (usable before after r is)) in
-    let rest = front_after hart (0 + length other) (last_stamp 0 other) first.0 in
+    ap (λ (n : ℕ). may_be_next hart n (stamp_after 0 before) r) plain
+    ∙ may_be_next-true hart (length before) (stamp_after 0 before) r (usable before after r is)) in
+    let rest = front_after hart (0 + length other) (stamp_after 0 other) first.0 in
     (rest, sym (front_after-append hart 0 0 other first.0 whole) ∙ ap (usable_front hart) first.1)
 
 pub UsableFront-longest : UsableFrontIsLongest

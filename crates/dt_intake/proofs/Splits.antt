@@ -3,25 +3,9 @@ use Rattle.std.specs.List.{slice_get, list_all}
 use Rattle.std.proofs.lemmas.Bool.{and_parts, cases_Bool, cond-true, cond-false}
 use Rattle.std.proofs.lemmas.List.{length-append, take_at, nil_from_length}
 use mathlib.Core.List.{IsPrefix}
+use Rattle.dt_lists.proofs.Lists.{filter-kept, filter-dropped, slice_get-past, not_last}
 
 -- Lists in parts.
-
-pub filter-pass : {X : Type 0} (p : X → Bool) (x : X) (xs : List X) → p x ≡ true → filter p (x ∷ xs) ≡ x ∷ filter p xs
-filter-pass p x xs passes = cond-true (p x) (x ∷ filter p xs) (filter p xs) passes
-
-pub filter-drop : {X : Type 0} (p : X → Bool) (x : X) (xs : List X) → p x ≡ false → filter p (x ∷ xs) ≡ filter p xs
-filter-drop p x xs fails = cond-false (p x) (x ∷ filter p xs) (filter p xs) fails
-
-pub filter-all : {X : Type 0} (p : X → Bool) (xs : List X) → list_all p xs ≡ true → filter p xs ≡ xs
-filter-all p [] all = refl
-filter-all p (x ∷ xs) all =
-    let parts = and_parts (p x) (list_all p xs) all in
-    filter-pass p x xs parts.0 ∙ ap (λ ys. x ∷ ys) (filter-all p xs parts.1)
-
-pub all_drop : {X : Type 0} (p : X → Bool) (n : ℕ) (xs : List X) → list_all p xs ≡ true → list_all p (drop n xs) ≡ true
-all_drop p zero xs all = all
-all_drop p (suc n) [] all = refl
-all_drop p (suc n) (x ∷ xs) all = all_drop p n xs (and_parts (p x) (list_all p xs) all).1
 
 pub prefix-take : {X : Type 0} (xs ys : List X) → IsPrefix xs ys → take (length xs) ys ≡ xs
 prefix-take xs ys is = ap (take (length xs)) (sym is.1) ∙ take_at xs is.0 (length xs) refl
@@ -30,10 +14,6 @@ pub prefix-length : {X : Type 0} (xs ys : List X) → IsPrefix xs ys → length 
 prefix-length xs ys is =
     let whole : length (xs ++ is.0) ≡ length ys = ap length is.1 in
     omega (arith, length-append xs is.0)
-
-pub not_last : {X : Type 0} (bs after : List X) (y : X) → [] ≡ bs ++ y ∷ after → ⊥
-not_last [] after y e = cc
-not_last (b ∷ bs) after y e = cc
 
 -- the last element, and those before it
 pub record EndsWith {X : Type 0} (xs : List X) (x : X) : Type 0 where
@@ -48,13 +28,8 @@ last-split (y ∷ z ∷ zs) x found =
     let rest = last-split (z ∷ zs) x (sym (ap (slice_get (y ∷ z ∷ zs)) place) ∙ found) in
     record { first = y ∷ rest.first; split = ap (λ l. y ∷ l) rest.split }
 
-past_end : {X : Type 0} (xs : List X) (i : ℕ) → slice_get xs i ≡ None → length xs ≤ i
-past_end [] i none = omega arith
-past_end (x ∷ xs) zero none = absurd (let never : ⊥ = cc in never)
-past_end (x ∷ xs) (suc i) none = let rest = past_end xs i none in omega arith
-
 pub last-none : {X : Type 0} (xs : List X) → slice_get xs (length xs - 1) ≡ None → xs ≡ []
-last-none xs none = let end = past_end xs (length xs - 1) none in nil_from_length xs (omega arith)
+last-none xs none = let end = slice_get-past xs (length xs - 1) none in nil_from_length xs (omega arith)
 
 -- an element of two lists, one behind the other, stands in the first or in the second
 pub record StandsIn {X : Type 0} (xs before : List X) (y : X) : Type 0 where
@@ -102,29 +77,29 @@ KeptAt-behind p x xs before y fails rest = record {
   earlier = x ∷ rest.earlier;
   later = rest.later;
   split = ap (λ zs. x ∷ zs) rest.split;
-  before_is = filter-drop p x rest.earlier fails ∙ rest.before_is;
+  before_is = filter-dropped p x rest.earlier fails ∙ rest.before_is;
 }
 
 pub filter-split : {X : Type 0} (p : X → Bool) (xs before after : List X) (y : X) → filter p xs ≡ before ++ y ∷ after → KeptAt p xs before y
 filter-split p [] before after y is = absurd (not_last before after y is)
 filter-split p (x ∷ xs) [] after y is = elim (cases_Bool (p x)) [
   | inl passes ↦
-      let kept : x ∷ filter p xs ≡ y ∷ after = sym (filter-pass p x xs passes) ∙ is in
+      let kept : x ∷ filter p xs ≡ y ∷ after = sym (filter-kept p x xs passes) ∙ is in
       let same : x ≡ y = cc in
       record { earlier = []; later = xs; split = ap (λ z. z ∷ xs) same; before_is = refl }
   | inr fails ↦
-      KeptAt-behind p x xs [] y fails (filter-split p xs [] after y (sym (filter-drop p x xs fails) ∙ is))
+      KeptAt-behind p x xs [] y fails (filter-split p xs [] after y (sym (filter-dropped p x xs fails) ∙ is))
 ]
 filter-split p (x ∷ xs) (b ∷ bs) after y is = elim (cases_Bool (p x)) [
   | inl passes ↦
-      let kept : x ∷ filter p xs ≡ b ∷ (bs ++ y ∷ after) = sym (filter-pass p x xs passes) ∙ is in
+      let kept : x ∷ filter p xs ≡ b ∷ (bs ++ y ∷ after) = sym (filter-kept p x xs passes) ∙ is in
       let tail : filter p xs ≡ bs ++ y ∷ after = cc in
       let first : x ≡ b = cc in
       let rest = filter-split p xs bs after y tail in record {
         earlier = x ∷ rest.earlier;
         later = rest.later;
         split = ap (λ zs. x ∷ zs) rest.split;
-        before_is = filter-pass p x rest.earlier passes ∙ ap (λ zs. x ∷ zs) rest.before_is ∙ ap (λ z. z ∷ bs) first;
+        before_is = filter-kept p x rest.earlier passes ∙ ap (λ zs. x ∷ zs) rest.before_is ∙ ap (λ z. z ∷ bs) first;
       }
-  | inr fails ↦ KeptAt-behind p x xs (b ∷ bs) y fails (filter-split p xs (b ∷ bs) after y (sym (filter-drop p x xs fails) ∙ is))
+  | inr fails ↦ KeptAt-behind p x xs (b ∷ bs) y fails (filter-split p xs (b ∷ bs) after y (sym (filter-dropped p x xs fails) ∙ is))
 ]

@@ -5,6 +5,8 @@ use Rattle.std.proofs.lemmas.Bool.{and_parts, both_ways, cases_Bool, ne_eqb}
 use Rattle.std.proofs.lemmas.List.{append_assoc, append-nil, take_all, take-append-drop, take-append-le}
 use Rattle.std.proofs.lemmas.List.Elements.{filter-append, filter_map-append}
 use mathlib.Core.List.{IsPrefix}
+use Rattle.dt_core.proofs.Telling.{announced-push}
+use Rattle.dt_lists.proofs.Lists.{filter-all, filter-kept, filter-dropped, list_all-drop, not_last}
 use Rattle.dt_record.specs.declared.records.Record.{Record}
 use Rattle.dt_record.specs.declared.writes.Write.{Write}
 use Rattle.dt_record.specs.declared.writes.Note.{Note}
@@ -16,7 +18,7 @@ use Rattle.dt_intake.specs.Intakes.{IntakeView, is_feed_end, usable_of, is_over,
 use Rattle.dt_intake.specs.Told.{is_of, own_notes, told_of, IsMarked, IsEnded, HasEnd, IsTold}
 use Rattle.dt_intake.specs.Laws.{NothingIsTold, TakingKeepsTold, RoomKeepsTold, TellingGoesOn, OwnNotesDecide, NewsIsOfOneHart}
 use Rattle.dt_intake.proofs.FrontLaws.{front_after-grows, front_after-whole, own-front_after}
-use Rattle.dt_intake.proofs.Splits.{filter-pass, filter-drop, filter-all, all_drop, prefix-length, not_last, last-split, StandsIn, append-split, single, KeptAt, filter-split}
+use Rattle.dt_intake.proofs.Splits.{prefix-length, last-split, StandsIn, append-split, single, KeptAt, filter-split}
 use Rattle.dt_intake.proofs.WriteLaws.{own_writes_from-parts, own-own_writes_from}
 
 -- What notes tell of a hart.
@@ -72,31 +74,27 @@ Taking-told v r notes goes told = choice (is_feed_end r)
 
 -- the notes of the hart decide
 
-announced-append : (hart : ℕ) (notes more : List Note) → hart_writes hart (announced (notes ++ more)) ≡ hart_writes hart (announced notes) ++ hart_writes hart (announced more)
-announced-append hart notes more =
-    ap (hart_writes hart) (filter_map-append write_in notes more) ∙ filter-append (λ (w : Write). w.key.hart == hart) (announced notes) (announced more)
-
 -- a note that is not the hart's announces no write of it, and it is left out
 announced-own : (hart : ℕ) (notes : List Note) → hart_writes hart (announced (own_notes hart notes)) ≡ hart_writes hart (announced notes)
 announced-own hart [] = refl
 announced-own hart (Wrote w ∷ ns) = elim (cases_Bool (w.key.hart == hart)) [
   | inl own ↦
-      ap (λ (ms : List Note). hart_writes hart (announced ms)) (filter-pass (is_of hart) (Wrote w) ns own)
-      ∙ filter-pass (λ (v : Write). v.key.hart == hart) w (announced (own_notes hart ns)) own
+      ap (λ (ms : List Note). hart_writes hart (announced ms)) (filter-kept (is_of hart) (Wrote w) ns own)
+      ∙ filter-kept (λ (v : Write). v.key.hart == hart) w (announced (own_notes hart ns)) own
       ∙ ap (λ (ws : List Write). w ∷ ws) (announced-own hart ns)
-      ∙ sym (filter-pass (λ (v : Write). v.key.hart == hart) w (announced ns) own)
+      ∙ sym (filter-kept (λ (v : Write). v.key.hart == hart) w (announced ns) own)
   | inr other ↦
-      ap (λ (ms : List Note). hart_writes hart (announced ms)) (filter-drop (is_of hart) (Wrote w) ns other)
+      ap (λ (ms : List Note). hart_writes hart (announced ms)) (filter-dropped (is_of hart) (Wrote w) ns other)
       ∙ announced-own hart ns
-      ∙ sym (filter-drop (λ (v : Write). v.key.hart == hart) w (announced ns) other)
+      ∙ sym (filter-dropped (λ (v : Write). v.key.hart == hart) w (announced ns) other)
 ]
 announced-own hart (Mark h stamp ∷ ns) = elim (cases_Bool (h == hart)) [
-  | inl own ↦ ap (λ (ms : List Note). hart_writes hart (announced ms)) (filter-pass (is_of hart) (Mark h stamp) ns own) ∙ announced-own hart ns
-  | inr other ↦ ap (λ (ms : List Note). hart_writes hart (announced ms)) (filter-drop (is_of hart) (Mark h stamp) ns other) ∙ announced-own hart ns
+  | inl own ↦ ap (λ (ms : List Note). hart_writes hart (announced ms)) (filter-kept (is_of hart) (Mark h stamp) ns own) ∙ announced-own hart ns
+  | inr other ↦ ap (λ (ms : List Note). hart_writes hart (announced ms)) (filter-dropped (is_of hart) (Mark h stamp) ns other) ∙ announced-own hart ns
 ]
 announced-own hart (End h ∷ ns) = elim (cases_Bool (h == hart)) [
-  | inl own ↦ ap (λ (ms : List Note). hart_writes hart (announced ms)) (filter-pass (is_of hart) (End h) ns own) ∙ announced-own hart ns
-  | inr other ↦ ap (λ (ms : List Note). hart_writes hart (announced ms)) (filter-drop (is_of hart) (End h) ns other) ∙ announced-own hart ns
+  | inl own ↦ ap (λ (ms : List Note). hart_writes hart (announced ms)) (filter-kept (is_of hart) (End h) ns own) ∙ announced-own hart ns
+  | inr other ↦ ap (λ (ms : List Note). hart_writes hart (announced ms)) (filter-dropped (is_of hart) (End h) ns other) ∙ announced-own hart ns
 ]
 announced-own hart (Cut h cut ∷ ns) = announced-own hart ns
 announced-own hart (Failure key ∷ ns) = announced-own hart ns
@@ -107,7 +105,7 @@ own-before : (hart : ℕ) (notes others before after : List Note) (n : Note) →
 own-before hart notes others before after n own same is =
     filter-split (is_of hart) notes (own_notes hart before) (own_notes hart after) n
     (same ∙ ap (own_notes hart) is ∙ filter-append (is_of hart) before (n ∷ after)
-    ∙ ap (λ (ns : List Note). own_notes hart before ++ ns) (filter-pass (is_of hart) n after own))
+    ∙ ap (λ (ns : List Note). own_notes hart before ++ ns) (filter-kept (is_of hart) n after own))
 
 same-before : (hart : ℕ) (earlier before : List Note) → own_notes hart earlier ≡ own_notes hart before
     → hart_writes hart (announced earlier) ≡ hart_writes hart (announced before)
@@ -218,13 +216,13 @@ reach_in v = reach_of v.hart (is_over v) (usable_of v)
 fresh-own : (v : IntakeView) → list_all (λ (w : Write). w.key.hart == v.hart) (fresh_writes v) ≡ true
 fresh-own v =
     own-own_writes_from v.hart v.told (drop v.told (usable_of v))
-    (all_drop (λ (r : Record). r.hart == v.hart) v.told (usable_of v) (own-front_after v.hart 0 0 v.taken))
+    (list_all-drop (λ (r : Record). r.hart == v.hart) v.told (usable_of v) (own-front_after v.hart 0 0 v.taken))
 
 -- with them, the notes announce the writes of all usable records
 wrote-all : (v : IntakeView) (notes : List Note) → IsTold v notes
     → hart_writes v.hart (announced (notes ++ map Wrote (fresh_writes v))) ≡ own_writes_from 0 (usable_of v)
 wrote-all v notes told =
-    announced-append v.hart notes (map Wrote (fresh_writes v))
+    announced-push v.hart notes (map Wrote (fresh_writes v))
     ∙ ap (λ (ws : List Write). hart_writes v.hart (announced notes) ++ ws)
     (ap (hart_writes v.hart) (announced-wrote (fresh_writes v)) ∙ filter-all (λ (w : Write). w.key.hart == v.hart) (fresh_writes v) (fresh-own v))
     ∙ ap (λ (ws : List Write). ws ++ fresh_writes v) told.wrote
@@ -238,7 +236,7 @@ tell-wrote : (v : IntakeView) (notes : List Note) → IsTold v notes
 tell-wrote v notes told =
     let wrote = notes ++ map Wrote (fresh_writes v) in
     ap (λ (ns : List Note). hart_writes v.hart (announced ns)) (sym (append_assoc notes (map Wrote (fresh_writes v)) (reach_in v)))
-    ∙ announced-append v.hart wrote (reach_in v)
+    ∙ announced-push v.hart wrote (reach_in v)
     ∙ ap (λ (ws : List Write). hart_writes v.hart (announced wrote) ++ hart_writes v.hart ws) (reach-silent v.hart (is_over v) (usable_of v))
     ∙ append-nil (hart_writes v.hart (announced wrote))
     ∙ wrote-all v notes told
@@ -304,15 +302,15 @@ wrote-other hart other [] apart own = refl
 wrote-other hart other (w ∷ ws) apart own =
     let parts = and_parts (w.key.hart == other) (list_all (λ (u : Write). u.key.hart == other) ws) own in
     let not_its : (w.key.hart == hart) ≡ false = ne_eqb w.key.hart hart (λ same. apart (sym same ∙ eqb-true w.key.hart other parts.0)) in
-    filter-drop (is_of hart) (Wrote w) (map Wrote ws) not_its ∙ wrote-other hart other ws apart parts.1
+    filter-dropped (is_of hart) (Wrote w) (map Wrote ws) not_its ∙ wrote-other hart other ws apart parts.1
 
 mark-other : (hart other : ℕ) (o : Option Record) → (other == hart) ≡ false
     → own_notes hart (option_to_list (option_map (λ (r : Record). Mark other r.stamp) o)) ≡ []
 mark-other hart other None apart = refl
-mark-other hart other (Some r) apart = filter-drop (is_of hart) (Mark other r.stamp) [] apart
+mark-other hart other (Some r) apart = filter-dropped (is_of hart) (Mark other r.stamp) [] apart
 
 reach-other : (hart other : ℕ) (over : Bool) (usable : List Record) → (other == hart) ≡ false → own_notes hart (reach_of other over usable) ≡ []
-reach-other hart other true usable apart = filter-drop (is_of hart) (End other) [] apart
+reach-other hart other true usable apart = filter-dropped (is_of hart) (End other) [] apart
 reach-other hart other false usable apart = mark-other hart other (slice_get usable (length usable - 1)) apart
 
 pub News-own : NewsIsOfOneHart

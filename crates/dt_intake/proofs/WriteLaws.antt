@@ -4,6 +4,8 @@ use Rattle.std.specs.List.{list_all}
 use Rattle.std.proofs.lemmas.Bool.{and_parts, and_from, cond-true, leb-true, le-ltb}
 use Rattle.std.proofs.lemmas.List.{append_assoc, append-nil, length-take-le, map-append, take_more, take-append-drop}
 use mathlib.Core.List.{IsPrefix}
+use Rattle.dt_writes.proofs.WritesOfRecords.{key-body_write, key-write_of_record, list_all-step}
+use Rattle.dt_lists.proofs.Lists.{filter-dropped}
 use Rattle.dt_record.specs.declared.keys.Key.{Key}
 use Rattle.dt_record.specs.declared.records.Record.{Record}
 use Rattle.dt_record.specs.declared.records.Body.{Body}
@@ -16,7 +18,6 @@ use Rattle.dt_record.specs.Writes.{body_write, write_of_record, counted, writes_
 use Rattle.dt_writes.specs.OwnWrites.{own_writes_from}
 use Rattle.dt_core.specs.Notes.{writes_below}
 use Rattle.dt_core.specs.Sound.{writes_by}
-use Rattle.dt_intake.proofs.Splits.{filter-drop}
 
 -- The writes of a hart's records.
 
@@ -51,34 +52,13 @@ own_writes_from-more first rs i d within =
 
 -- a write has its record's key
 
-key-body_write : (key : Key) (b : Body) (w : Write) → body_write key b ≡ Some w → w.key ≡ key
-key-body_write key (Drain line mask count bytes) w is = cc
-key-body_write key (Atomic retire paddr width true new) w is = cc
-key-body_write key (Atomic retire paddr width false new) w is = cc
-key-body_write key (Commit retire) w is = cc
-key-body_write key (Trap pc bits cause tval) w is = cc
-key-body_write key (Regs pc x) w is = cc
-key-body_write key (Csrs mode v) w is = cc
-key-body_write key (Load retire at paddr) w is = cc
-key-body_write key (Store pc bits paddr value) w is = cc
-key-body_write key (Refill line bytes) w is = cc
-key-body_write key Beat w is = cc
-
-key-write_of_record : (seq : ℕ) (r : Record) (w : Write) → write_of_record seq r ≡ Some w → w.key ≡ key_of seq r
-key-write_of_record seq r w is = key-body_write (key_of seq r) r.body w is
-
-all-first : (p : Write → Bool) (o : Option Write) (rest : List Write) → ((w : Write) → o ≡ Some w → p w ≡ true)
-    → list_all p rest ≡ true → list_all p (option_to_list o ++ rest) ≡ true
-all-first p None rest here all = all
-all-first p (Some w) rest here all = and_from (p w) (list_all p rest) (here w refl) all
-
 -- the writes of a hart's records are the hart's
 pub own-own_writes_from : (hart seq : ℕ) (rs : List Record) → list_all (λ (r : Record). r.hart == hart) rs ≡ true
     → list_all (λ (w : Write). w.key.hart == hart) (own_writes_from seq rs) ≡ true
 own-own_writes_from hart seq [] own = refl
 own-own_writes_from hart seq (r ∷ rs) own =
     let parts = and_parts (r.hart == hart) (list_all (λ (q : Record). q.hart == hart) rs) own in
-    all-first (λ (w : Write). w.key.hart == hart) (write_of_record seq r) (own_writes_from (seq + 1) rs)
+    list_all-step (λ (w : Write). w.key.hart == hart) (write_of_record seq r) (own_writes_from (seq + 1) rs)
     (λ w is. ap (λ (k : Key). k.hart == hart) (key-write_of_record seq r w is) ∙ parts.0)
     (own-own_writes_from hart (seq + 1) rs parts.1)
 
@@ -95,7 +75,7 @@ below-own_writes_from stamp seq (r ∷ rs) late =
     one : (o : Option Write) → ((w : Write) → o ≡ Some w → nat_lt w.key.stamp stamp ≡ false)
         → writes_below stamp (option_to_list o ++ own_writes_from (seq + 1) rs) ≡ writes_below stamp (own_writes_from (seq + 1) rs)
     one None here = refl
-    one (Some w) here = filter-drop (λ (v : Write). nat_lt v.key.stamp stamp) w (own_writes_from (seq + 1) rs) (here w refl)
+    one (Some w) here = filter-dropped (λ (v : Write). nat_lt v.key.stamp stamp) w (own_writes_from (seq + 1) rs) (here w refl)
 
 -- the writes of one hart's records, counted among the records of all harts
 

@@ -6,9 +6,9 @@ use Rattle.dt_record.specs.declared.records.Record.{Record}
 use Rattle.dt_record.specs.Lawful.{is_lawful, IsLawful}
 
 -- the stamp of the last of some records, and this one where there is none
-abbrev pub last_stamp : ℕ → List Record → ℕ
-last_stamp stamp [] = stamp
-last_stamp stamp (r ∷ rs) = last_stamp r.stamp rs
+abbrev pub stamp_after : ℕ → List Record → ℕ
+stamp_after stamp [] = stamp
+stamp_after stamp (r ∷ rs) = stamp_after r.stamp rs
 
 -- a record may be the one with this number of a hart, after one with this stamp
 pub record MayBeNext (hart seq stamp : ℕ) (r : Record) : Type 0 where
@@ -26,7 +26,7 @@ may_be_next hart seq stamp r = nat_lt seq RECORD_LIMIT && (is_lawful r && ((r.ha
 -- each of the records may come next after those before it
 abbrev pub AreUsable : ℕ → List Record → Type 0
 AreUsable hart records = (before after : List Record) (r : Record) → records ≡ before ++ r ∷ after
-    → MayBeNext hart (length before) (last_stamp 0 before) r
+    → MayBeNext hart (length before) (stamp_after 0 before) r
 
 -- the longest front of usable records, where so many of the hart come before and the last of these has this stamp
 abbrev pub front_after : ℕ → ℕ → ℕ → List Record → List Record

@@ -1,12 +1,12 @@
 //! Which of the taken records are usable.
 ghost use Rattle.std.specs.Prelude.{◌≡◌, ◌==◌, ◌&&◌, [], ◌∷◌, ◌++◌, length};
-ghost use Rattle.dt_intake.specs.Fronts.{last_stamp, may_be_next, usable_front};
+ghost use Rattle.dt_intake.specs.Fronts.{stamp_after, may_be_next, usable_front};
 
 use dt_record::{RECORD_LIMIT, Record, lawful};
 
 /// The stamp of the last record, and 0 where there is none.
-fn last_stamp(records: &[Record]) -> u64
-    ensures { result ≡ last_stamp 0 records.now }
+fn stamp_after(records: &[Record]) -> u64
+    ensures { result ≡ stamp_after 0 records.now }
 {
     match records.last() {
         Some(event) => event.stamp,
@@ -23,9 +23,9 @@ fn may_be_next(hart: u8, seq: usize, stamp: u64, event: &Record) -> bool
 
 /// Whether all taken records are usable, of which there are so many, and this one too after them.
 fn goes_on(hart: u8, taken: &[Record], usable_len: usize, event: &Record) -> bool
-    ensures { result ≡ ((usable_len == length taken.now) && may_be_next hart usable_len (last_stamp 0 taken.now) event.now) }
+    ensures { result ≡ ((usable_len == length taken.now) && may_be_next hart usable_len (stamp_after 0 taken.now) event.now) }
 {
-    usable_len == taken.len() && may_be_next(hart, usable_len, last_stamp(taken), event)
+    usable_len == taken.len() && may_be_next(hart, usable_len, stamp_after(taken), event)
 }
 
 /// How many records are usable once this one is taken.

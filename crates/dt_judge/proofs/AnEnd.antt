@@ -4,6 +4,8 @@ use Rattle.std.specs.List.{slice_get}
 use Rattle.std.specs.Option.{option_to_list}
 use Rattle.std.proofs.lemmas.List.{length-append}
 use Rattle.std.proofs.lemmas.Option.{same_Some, slice_get-get_or, slice_get_within}
+use Rattle.dt_sources.proofs.Choices.{with_moment-elsewhere}
+use Rattle.dt_lists.proofs.Lists.{slice_get-append_left, slice_get-push}
 use Rattle.dt_hart.specs.Settings.{Setting, did, does, moments_after}
 use Rattle.dt_rules.specs.declared.misfits.Passed.{Passed}
 use Rattle.dt_record.specs.declared.records.Body.TheVariants.{Beat}
@@ -18,7 +20,6 @@ use Rattle.dt_judge.specs.Judgement.{Finds}
 use Rattle.dt_judge.specs.Laws.{AgreeAtLoads, EarlierMomentsDecide, HasEnd, RunsHaveAnEnd}
 use Rattle.dt_judge.specs.Runs.{AreAllowed, setting_at}
 use Rattle.dt_judge.proofs.AFinding.{Laws as FindingLaws, finding_of, least_goes_on}
-use Rattle.dt_judge.proofs.LoadMoments.{moment_elsewhere, slice_get-append_left}
 use Rattle.dt_judge.proofs.OneEnd.{actions_front}
 
 -- A hart's records are allowed up to some place.
@@ -36,15 +37,6 @@ take_next n [] x there = absurd (cc)
 take_next zero (y ∷ ys) x there = ap (λ z. z ∷ []) (same_Some y x there)
 take_next (suc n) (y ∷ ys) x there = ap (λ zs. y ∷ zs) (take_next n ys x there)
 
-at_push : {X : Type 0} (xs : List X) (x : X) (n : ℕ) (y : X) → slice_get (xs ++ x ∷ []) n ≡ Some y → (slice_get xs n ≡ Some y) ⊎ ((n ≡ length xs) × (x ≡ y))
-at_push [] x zero y there = inr (refl, same_Some x y there)
-at_push [] x (suc n) y there = absurd (cc)
-at_push (z ∷ zs) x zero y there = inl there
-at_push (z ∷ zs) x (suc n) y there = elim (at_push zs x n y there) [
-  | inl before ↦ inl before
-  | inr now ↦ inr (omega (arith, now.0), now.1)
-]
-
 -- ---- moments
 
 -- the moments after one more record are those before at the loads before
@@ -56,7 +48,7 @@ next_agrees s (Some (Fenced ww wr rr)) k place ask there = refl
 next_agrees s (Some (Atomic key addr width reads acquires)) k place ask there = refl
 next_agrees s (Some (Loaded load)) k place ask there =
     let within = slice_get_within (did s) place (Loaded ask) there in
-    moment_elsewhere s.moments (length (did s)) k place (λ same. omega arith)
+    with_moment-elsewhere s.moments (length (did s)) k place (λ same. omega arith)
 
 module _ (laws : Laws) (image : List ℕ) (writes : List Write) (ordered : IsTrue (are_in_order writes)) (wide : Bool) (hart : ℕ) (records : List Record) where
   abbrev at : (moments : ℕ → ℕ) (n : ℕ) → Setting
@@ -95,7 +87,7 @@ module _ (laws : Laws) (image : List ℕ) (writes : List Write) (ordered : IsTru
           chosen =
               subst (λ k. AreLeastSources image writes (actions_of (take k records)) next) (sym long)
               (subst (λ (l : List Action). AreLeastSources image writes l next) (sym acts) gone.1);
-          each = λ m q here. elim (at_push begun.allowed p m q here) [
+          each = λ m q here. elim (slice_get-push begun.allowed p m q here) [
             | inl earlier ↦
                 let before = begun.are.each m q earlier in
                 let within = slice_get_within begun.allowed m q earlier in

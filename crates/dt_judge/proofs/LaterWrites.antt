@@ -8,6 +8,8 @@ use Rattle.std.proofs.lemmas.List.{append-nil, length-append, take-append-le, dr
 use Rattle.std.proofs.lemmas.List.Elements.{All-contains, Contains-append_cases, Contains-append_left, filter-append}
 use Rattle.std.proofs.lemmas.List.Folds.{list_all-append}
 use Rattle.std.proofs.lemmas.List.Sums.{AllPass-from_list_all, prefix_len-le-length}
+use Rattle.dt_record.proofs.KeyLaws.{KeyBelow-stamps}
+use Rattle.dt_lists.proofs.Lists.{filter-within, within_prefix}
 use Rattle.dt_record.specs.declared.accesses.LoadAsk.{LoadAsk}
 use Rattle.dt_record.specs.declared.keys.Key.{Key}
 use Rattle.dt_record.specs.declared.writes.Write.{Write}
@@ -19,7 +21,6 @@ use Rattle.dt_record.specs.Visible.{IsVisible, cannot_see, must_see}
 use Rattle.dt_sources.specs.Knowing.{WroteBefore}
 use Rattle.dt_versions.specs.Spans.{first_visible, last_visible}
 use Rattle.dt_judge.specs.Judging.{are_later}
-use Rattle.dt_judge.proofs.LastVisible.{within_prefix}
 
 -- Writes of later cycles do not change what a record sees.
 
@@ -47,9 +48,6 @@ hidden stamp at key w early later = let above : nat_lt at w.key.stamp ≡ true =
 needless : (stamp at : ℕ) (key : Key) (w : Write) → at ≤ stamp → IsTrue (nat_lt stamp w.key.stamp) → IsTrue (not (must_see key at w))
 needless stamp at key w early later = grind (arith, nat_tests)
 
-below_stamp : (a b : Key) → KeyBelow a b → a.stamp ≤ b.stamp
-below_stamp a b below = grind (arith, nat_tests)
-
 -- what is left of a list before its last elements that pass, where more that pass follow
 one_stays : {X : Type 0} (p : X → Bool) (xs : List X) (y : X) → p y ≡ true → length (xs ++ y ∷ []) - suffix_len p (xs ++ y ∷ []) ≡ length xs - suffix_len p xs
 one_stays p xs y passes =
@@ -70,10 +68,6 @@ none_kept p stops [] fails all = refl
 none_kept p stops (x ∷ xs) fails all =
     let parts = and_parts (stops x) (list_all stops xs) all in
     rw (fails x parts.0) (none_kept p stops xs fails parts.1)
-
-few_kept : {X : Type 0} (p : X → Bool) (xs : List X) → length (filter p xs) ≤ length xs
-few_kept p [] = omega arith
-few_kept p (x ∷ xs) = let less = few_kept p xs in elim (cases_Bool (p x)) [ inl passes ↦ rw passes (omega arith) | inr stops ↦ rw stops (omega arith) ]
 
 -- a write of a later cycle has no key below one of an earlier cycle
 not_below : (stamp : ℕ) (key : Key) (w : Write) → key.stamp ≤ stamp → IsTrue (nat_lt stamp w.key.stamp) → key_below w.key key ≡ false
@@ -135,7 +129,7 @@ module _ (ws later : List Write) (stamp : ℕ) (after : IsTrue (are_later stamp 
   -- where an atomic has a byte from
   pub own_source_same : (key : Key) (byte : ℕ) → key.stamp ≤ stamp → source_at (ws ++ later) (moment_of (ws ++ later) key) byte ≡ source_at ws (moment_of ws key) byte
   own_source_same key byte early =
-      ap (λ k. source_at (ws ++ later) k byte) (moment_same key early) ∙ source_same (moment_of ws key) byte (few_kept (λ w. key_below w.key key) ws)
+      ap (λ k. source_at (ws ++ later) k byte) (moment_same key early) ∙ source_same (moment_of ws key) byte (filter-within (λ w. key_below w.key key) ws)
 
   pub origin_same : (before : List Action) (ask : LoadAsk) (k byte : ℕ) → k ≤ length ws → origin_of (ws ++ later) before ask k byte ≡ origin_of ws before ask k byte
   origin_same before ask k byte within = rw (source_same k byte within) refl
@@ -155,7 +149,7 @@ module _ (ws later : List Write) (stamp : ℕ) (after : IsTrue (are_later stamp 
     | inl here ↦ here
     | inr last ↦
         let above : IsTrue (nat_lt stamp w.key.stamp) = passes_in (λ v. nat_lt stamp v.key.stamp) later w after last in
-        let least = below_stamp w.key key below in
+        let least = KeyBelow-stamps w.key key below in
         absurd (grind (arith, nat_tests))
   ]
 

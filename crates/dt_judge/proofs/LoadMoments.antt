@@ -4,6 +4,9 @@ use Rattle.std.specs.List.{slice_get}
 use Rattle.std.proofs.lemmas.Bool.{cases_eq, cond-true, cond-false, eq-eqb, ne_eqb}
 use Rattle.std.proofs.lemmas.List.{length-append, take-append-le}
 use Rattle.std.proofs.lemmas.Option.{slice_get_within}
+use Rattle.dt_sources.proofs.Choices.{with_moment-elsewhere}
+use Rattle.dt_loads.proofs.Moments.{moment_here}
+use Rattle.dt_lists.proofs.Lists.{slice_get-append_left, slice_get-append_seam}
 use Rattle.dt_record.specs.declared.accesses.LoadAsk.{LoadAsk}
 use Rattle.dt_record.specs.declared.origins.Origin.{Origin}
 use Rattle.dt_record.specs.declared.writes.Write.{Write}
@@ -15,11 +18,6 @@ use Rattle.dt_judge.specs.Laws.{AgreeAtLoads}
 
 -- What a load may read depends on the actions before it and the moments of the loads among these alone, so there is one
 -- least fitting assignment.
-
-pub slice_get-append_left : {X : Type 0} (xs ys : List X) (i : ℕ) → i < length xs → slice_get (xs ++ ys) i ≡ slice_get xs i
-slice_get-append_left [] ys i within = absurd (omega arith)
-slice_get-append_left (x ∷ xs) ys zero within = refl
-slice_get-append_left (x ∷ xs) ys (suc i) within = slice_get-append_left xs ys i (omega arith)
 
 -- the source of a byte depends on the moment where a load had it
 pub same_origin : (writes : List Write) (before : List Action) (j k : ℕ) (action : Action) (byte : ℕ) → ((ask : LoadAsk) → action ≡ Loaded ask → k ≡ j)
@@ -127,16 +125,6 @@ least_agree image writes actions moments others one other place ask there =
 
 -- ---- a next load
 
-pub moment_here : (moments : ℕ → ℕ) (place k : ℕ) → with_moment moments place k place ≡ k
-moment_here moments place k = cond-true (place == place) k (moments place) (eq-eqb place place refl)
-
-pub moment_elsewhere : (moments : ℕ → ℕ) (place k n : ℕ) → n ≢ place → with_moment moments place k n ≡ moments n
-moment_elsewhere moments place k n apart = cond-false (n == place) k (moments n) (ne_eqb n place apart)
-
-pub at_seam : {X : Type 0} (xs : List X) (y : X) (ys : List X) → slice_get (xs ++ y ∷ ys) (length xs) ≡ Some y
-at_seam [] y ys = refl
-at_seam (x ∷ xs) y ys = at_seam xs y ys
-
 pub agree_next : (actions : List Action) (action : Action) (moments others : ℕ → ℕ) (k : ℕ) → AgreeAtLoads actions moments others
     → AgreeAtLoads (then_action actions action) (with_moment moments (length actions) k) (with_moment others (length actions) k)
 agree_next actions action moments others k agree place ask there = elim (cases_eq place (length actions)) [
@@ -145,9 +133,9 @@ agree_next actions action moments others k agree place ask there = elim (cases_e
   | inr apart ↦
       let within = slice_get_within (then_action actions action) place (Loaded ask) there in
       let before : place < length actions = omega (arith, length-append actions (action ∷ [])) in
-      moment_elsewhere others (length actions) k place apart
+      with_moment-elsewhere others (length actions) k place apart
       ∙ agree place ask (sym (slice_get-append_left actions (action ∷ []) place before) ∙ there)
-      ∙ sym (moment_elsewhere moments (length actions) k place apart)
+      ∙ sym (with_moment-elsewhere moments (length actions) k place apart)
 ]
 
 -- the load fits at its moment
@@ -157,7 +145,7 @@ pub next_fits : (image : List ℕ) (writes : List Write) (actions : List Action)
 next_fits image writes actions moments ask k fits =
     let place = length actions in
     let others : ℕ → ℕ = with_moment moments place k in
-    subst (λ j. FitsThere image writes (then_action actions (Loaded ask)) others place ask j) (moment_here moments place k) (fits place ask (at_seam actions (Loaded ask) []))
+    subst (λ j. FitsThere image writes (then_action actions (Loaded ask)) others place ask j) (moment_here moments place k) (fits place ask (slice_get-append_seam actions (Loaded ask) []))
 
 -- ---- first actions
 

@@ -20,8 +20,8 @@ use Rattle.dt_hart.specs.Fences.{fences_of}
 use Rattle.dt_hart.specs.HartView.{HartView}
 use Rattle.dt_hart.specs.OwnWrites.{GoesOn}
 use Rattle.dt_hart.specs.Settings.{Setting, arch_of, did, does, key_in}
-use Rattle.dt_hart.specs.Standing.{FencesAreEarlier, KnowsAt, KnowsAtNext, StandsFor}
-use Rattle.dt_hart.specs.Taking.{IsRead, WasJudged}
+use Rattle.dt_hart.specs.Standing.{FencesAreEarlier, KnowsAt, KnowsAtNext, HartStands}
+use Rattle.dt_hart.specs.Taking.{WasRead, WasJudged}
 use Rattle.dt_rules.specs.declared.misfits.Passed.{Passed}
 use Rattle.dt_local.specs.LocalMemory.{local_memory}
 use Rattle.dt_rules.specs.declared.misfits.Misfit.{Misfit}
@@ -86,8 +86,8 @@ module _ (laws : Laws) (h : HartView) (m : History) (s : Setting) (r : Record) (
   abbrev there : Setting
   there = settled m s meets.later
 
-  stands_there : StandsFor h there
-  stands_there = subst (λ (x : Setting). StandsFor h x) (is_settled h m s r meets) meets.stands
+  stands_there : HartStands h there
+  stands_there = subst (λ (x : Setting). HartStands h x) (is_settled h m s r meets) meets.stands
 
   goes_on_there : GoesOn there r
   goes_on_there = subst (λ (x : Setting). GoesOn x r) (is_settled h m s r meets) meets.goes_on
@@ -176,7 +176,7 @@ module _ (laws : Laws) (h : HartView) (m : History) (s : Setting) (r : Record) (
       subst (λ (x : Setting). Finds x r f) (sym (is_settled h m s r meets)) (subst (λ (g : Grounds). FindsBody g (key_in s r) r.body f) (sym same_grounds) more)
 
   read_action : (action : Option Action) (sources : Sources) → IsTrue (list_all (is_seen r.stamp) (option_to_list action)) → IsReadIn m.image m.writes (did s) s.moments action sources
-      → (moment : ℕ) × IsRead there action moment sources
+      → (moment : ℕ) × WasRead there action moment sources
   read_action (Some (Loaded ask)) sources seen read =
       let parts = and_parts (nat_le ask.at r.stamp && nat_le ask.key.stamp r.stamp) true seen in
       let both = and_parts (nat_le ask.at r.stamp) (nat_le ask.key.stamp r.stamp) parts.0 in

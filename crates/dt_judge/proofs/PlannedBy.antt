@@ -1,5 +1,7 @@
 use Rattle.std.proofs.Common.{ℕ, ◌≡◌, ◌≤◌, ◌%◌, ◌==◌, Bool, true, false, Option, Some, None, Result, Ok, Err, IsSomeAnd, if◌then◌else◌, inl, inr, refl, sym, ap, subst, ◌∙◌, eqb-true, arith}
 use Rattle.std.specs.Prelude.{IfSome, option_and_then}
+use Rattle.dt_checks.proofs.Retired.{checked, passed_plan}
+use Rattle.dt_loads.proofs.Lines.{narrow}
 use Rattle.dt_alu.specs.Extend.{IsAccessWidth}
 use Rattle.dt_checks.specs.declared.starting.Started.{Started}
 use Rattle.dt_checks.specs.Fetching.{fetch_check}
@@ -37,22 +39,6 @@ pub record IsPlannedBy (a : Arch) (bits tag : ℕ) (plan : Planned) : Type 0 whe
   pub means : IsSomeAnd (meaning_of bits) (λ i. plan ≡ plan_of a i bits)
   pub due : due_tag plan ≡ tag
 
-checked : (holds : Bool) (refused : Misfit) (plan p : Planned) → check holds refused (Ok plan) ≡ Ok p → (holds ≡ true) × (plan ≡ p)
-checked true refused plan p passed = (refl, let same : plan ≡ p = cc in same)
-checked false refused plan p passed = absurd (let no : Err refused ≡ Ok p = passed in cc)
-
-passed_plan : (plan : Planned) (tag : ℕ) (p : Planned) → plan_check plan tag ≡ Ok p → (plan ≡ p) × (due_tag plan ≡ tag)
-passed_plan (Raises cause tval) tag p passed = absurd (let no : Err (raised cause) ≡ Ok p = passed in cc)
-passed_plan (Done rd value next) tag p passed = let held = checked _ _ _ p passed in (held.1, eqb-true _ _ held.0)
-passed_plan (NeedsLoad va width signed rd) tag p passed = let held = checked _ _ _ p passed in (held.1, eqb-true _ _ held.0)
-passed_plan (NeedsStore va width value) tag p passed = let held = checked _ _ _ p passed in (held.1, eqb-true _ _ held.0)
-passed_plan (NeedsAtomic va width op aq rl rd operand) tag p passed = let held = checked _ _ _ p passed in (held.1, eqb-true _ _ held.0)
-passed_plan (Csr number op operand reads writes rd) tag p passed = let held = checked _ _ _ p passed in (held.1, eqb-true _ _ held.0)
-passed_plan (Returns from_m) tag p passed = let held = checked _ _ _ p passed in (held.1, eqb-true _ _ held.0)
-passed_plan (Fences ww wr rr) tag p passed = let held = checked _ _ _ p passed in (held.1, eqb-true _ _ held.0)
-passed_plan FenceI tag p passed = let held = checked _ _ _ p passed in (held.1, eqb-true _ _ held.0)
-passed_plan (FencesPages va all) tag p passed = let held = checked _ _ _ p passed in (held.1, eqb-true _ _ held.0)
-
 meant : (a : Arch) (bits tag : ℕ) (o : Option Instr) (p : Planned) → meaning_check a bits tag o ≡ Ok p → IsSomeAnd o (λ i. p ≡ plan_of a i bits) × (due_tag p ≡ tag)
 meant a bits tag None p is = absurd (cc is)
 meant a bits tag (Some i) p is = let held = passed_plan (plan_of a i bits) tag p is in (sym held.0, ap due_tag (sym held.0) ∙ held.1)
@@ -80,15 +66,9 @@ decoded law bits = by_length (bits % 4 == 3) _
     by_length false None = tt
     by_length false (Some word) = law word
 
-few_bytes : (width : ℕ) → IsAccessWidth width → width ≤ 8
-few_bytes width (inl one) = omega arith
-few_bytes width (inr (inl two)) = omega arith
-few_bytes width (inr (inr (inl four))) = omega arith
-few_bytes width (inr (inr (inr eight))) = omega arith
-
 narrow_instr : (i : Instr) → IsDecoded i → width_of (Some i) ≤ 8
-narrow_instr (Load width signed rd rs1 imm) fine = few_bytes width fine.0
-narrow_instr (Store width rs1 rs2 imm) fine = few_bytes width fine.0
+narrow_instr (Load width signed rd rs1 imm) fine = narrow width fine.0
+narrow_instr (Store width rs1 rs2 imm) fine = narrow width fine.0
 narrow_instr i fine = omega arith
 
 narrow_meaning : (o : Option Instr) → IfSome o IsDecoded → width_of o ≤ 8

@@ -8,8 +8,8 @@ use Rattle.dt_record.specs.Lawful.{is_lawful}
 use Rattle.dt_hart.specs.HartView.{HartView}
 use Rattle.dt_hart.specs.OwnWrites.{GoesOn}
 use Rattle.dt_hart.specs.Settings.{Setting, after, does}
-use Rattle.dt_hart.specs.Standing.{StandsFor}
-use Rattle.dt_hart.specs.Taking.{IsRead}
+use Rattle.dt_hart.specs.Standing.{HartStands}
+use Rattle.dt_hart.specs.Taking.{WasRead}
 use Rattle.dt_rules.specs.Checks.{misfit}
 use Rattle.dt_versions.specs.History.{History}
 use Rattle.dt_judge.specs.declared.judging.Judged.{Judged}
@@ -26,7 +26,7 @@ are_later stamp writes = list_all (λ w. nat_lt stamp w.key.stamp) writes
 -- the first of all writes, and no write that it lacks is of the record's cycle or an earlier one. The records before are
 -- lawful.
 pub record Meets (h : HartView) (m : History) (s : Setting) (r : Record) : Type 0 where
-  pub stands : StandsFor h s
+  pub stands : HartStands h s
   pub goes_on : GoesOn s r
   pub lawful : IsTrue (list_all is_lawful s.before)
   pub image : s.image ≡ m.image
@@ -44,8 +44,8 @@ IsJudged s r OutOfMemory = Unit {0}
 -- assignment, and the bytes of a load, an LR or an AMO come from these sources.
 pub record GoesOnBy (h : HartView) (s : Setting) (r : Record) (sources : Sources) : Type 0 where
   pub moment : ℕ
-  pub is_read : IsRead s (does s r) moment sources
-  pub stands : StandsFor h (after s r moment)
+  pub is_read : WasRead s (does s r) moment sources
+  pub stands : HartStands h (after s r moment)
 
 abbrev pub OnFine : Judged → (Letters → Sources → Type 0) → Type 0
 OnFine (Fine letters sources) P = P letters sources

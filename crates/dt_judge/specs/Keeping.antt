@@ -21,7 +21,7 @@ use Rattle.dt_sources.specs.Knowing.{AreJudged, Knows}
 use Rattle.dt_step.specs.declared.plans.Planned.{Planned}
 use Rattle.dt_step.specs.declared.plans.Planned.TheVariants.{NeedsLoad, NeedsStore, NeedsAtomic}
 use Rattle.dt_step.specs.Alignment.{IsAligned}
-use Rattle.dt_stores.specs.Standing.{StandsFor as Keeps}
+use Rattle.dt_stores.specs.Standing.{StoresStand}
 use Rattle.dt_traps.specs.declared.traps.TrapSpans.{TrapSpans}
 use Rattle.dt_traps.specs.Instructions.{access_address}
 use Rattle.dt_versions.specs.declared.moments.Span.{Span}
@@ -70,7 +70,7 @@ grounds_kept h m last actions moments = record {
 -- What is kept of a hart is what these actions left before a record with this key: the loads among them read at these
 -- moments, which are those of the least fitting assignment, over writes that stand in the order of their keys.
 pub record Remembers (h : HartView) (m : History) (key : Key) (actions : List Action) (moments : ℕ → ℕ) : Type 0 where
-  pub stores : Keeps h.stores actions
+  pub stores : StoresStand h.stores actions
   pub floor : h.floor ≡ order_floor actions
   pub knows : Knows (local_memory h.keys None) m.writes actions moments key
   pub judged : AreJudged m.writes actions key

@@ -10,7 +10,7 @@ ghost use Rattle.dt_refills.specs.Refilling.{refill_check};
 ghost use Rattle.dt_rules.specs.Checks.{and_then};
 ghost use Rattle.dt_step.specs.Alignment.{AccessesAligned};
 ghost use Rattle.dt_stores.specs.Draining.{drain_answer};
-ghost use Rattle.dt_stores.specs.Standing.{StandsFor as Keeps};
+ghost use Rattle.dt_stores.specs.Standing.{StoresStand};
 ghost use Rattle.dt_traps.specs.Traps.{trap_check};
 ghost use Rattle.dt_judge.specs.Keeping.{IsPlacedBy, grounds_kept, trap_kept};
 ghost use Rattle.dt_judge.specs.Kinds.{commit_finding, fine, of_another_kind, store_finding, stored, trap_finding, with_p};
@@ -69,7 +69,7 @@ pub fn with_p(p: bool, found: Result<Passed, Misfit>) -> Result<Passed, Misfit>
 pub fn commit(h: &Hart, m: &Moments, last: u32, key: Key, retire: Retire) -> Result<Passed, Misfit>
     requires within { last ≤ length m.now.writes }
     requires instruction { IsTrue (is_instruction retire.bits) }
-    ensures finds { (actions : List Action) (moments : ℕ → ℕ) → Keeps h.now.stores actions
+    ensures finds { (actions : List Action) (moments : ℕ → ℕ) → StoresStand h.now.stores actions
         → result ≡ commit_finding (grounds_kept h.now m.now last actions moments) key retire }
     ensures can_retire { OnOk result (CanRetire h.now.arch retire.bits) }
 {
@@ -185,9 +185,9 @@ pub fn drain(
     bytes: &[u8; 64],
     seq: u32,
 ) -> Result<Passed, Misfit>
-    ensures finds { (actions : List Action) → Keeps h.now.stores actions
+    ensures finds { (actions : List Action) → StoresStand h.now.stores actions
         → result ≡ and_then (drain_check actions line mask count bytes.now seq) fine }
-    ensures took { OnOk result ((actions : List Action) → Keeps h.now.stores actions
+    ensures took { OnOk result ((actions : List Action) → StoresStand h.now.stores actions
         → drain_answer actions line count ≡ DrainAnswer.Took mask bytes.now) }
 {
     drains(h.stores(), line, mask, count, bytes, seq)?;

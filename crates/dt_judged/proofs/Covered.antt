@@ -6,6 +6,8 @@ use Rattle.std.proofs.lemmas.Bool.{and_parts, cases_lt, lt-ltb, le-ltb, leb-true
 use Rattle.std.proofs.lemmas.Bool.Decides.{nat_tests}
 use Rattle.std.proofs.lemmas.Nat.{pow-add}
 use Rattle.std.proofs.lemmas.Nat.Bits.{bit_at_or, bit_at-lt, bit_at_mask_inside}
+use Rattle.dt_sources.proofs.Untaken.{widths}
+use Rattle.dt_lists.proofs.Lists.{slice_get-take}
 use Rattle.dt_record.specs.declared.accesses.OwnStore.{OwnStore}
 use Rattle.dt_record.specs.Memory.{line_of}
 use Rattle.dt_record.specs.Lawful.{is_in_ram}
@@ -15,7 +17,7 @@ use Rattle.dt_stores.specs.declared.answers.DrainAnswer.TheVariants as answer
 use Rattle.dt_stores.specs.Draining.{is_waiting_on, merged_mask, took, answer_among}
 use Rattle.dt_stores.specs.Places.{is_store_place, is_store_width}
 use Rattle.dt_judged.specs.Covering.{taken_by, DrainsCoverStores}
-use Rattle.dt_judged.proofs.Elements.{front_get, passes_there}
+use Rattle.dt_judged.proofs.Elements.{passes_there}
 
 -- The mask of a drain has each byte of the stores that it takes.
 
@@ -24,9 +26,6 @@ pub record IsInside (addr width byte : ℕ) : Type 0 where
   pub same_line : line_of addr ≡ line_of byte
   pub from : addr % 64 ≤ byte % 64
   pub to : byte % 64 < addr % 64 + width
-
-widths : (w : ℕ) → IsTrue (is_store_width w) → (w ≡ 1) ⊎ ((w ≡ 2) ⊎ ((w ≡ 4) ⊎ (w ≡ 8)))
-widths w narrow = grind (arith, nat_tests)
 
 inside_width : (addr byte width : ℕ) → (width ≡ 1) ⊎ ((width ≡ 2) ⊎ ((width ≡ 4) ⊎ (width ≡ 8))) → addr % width ≡ 0 → addr ≤ byte → byte < addr + width → IsInside addr width byte
 inside_width addr byte width (inl one) aligned from to =
@@ -49,7 +48,7 @@ inside_store s byte placed covering =
     let ends = and_parts (nat_le s.addr byte) (nat_lt byte (s.addr + s.width)) covering in
     inside_width s.addr byte s.width (widths s.width parts.0) aligned (leb-true s.addr byte ends.0) (ltb-true byte (s.addr + s.width) ends.1)
 
-width_has : (place width bit : ℕ) → place ≤ bit → bit < place + width → bit_at (width_mask place width) bit ≡ 1
+pub width_has : (place width bit : ℕ) → place ≤ bit → bit < place + width → bit_at (width_mask place width) bit ≡ 1
 width_has place width bit from to =
     let both : 2 ^ (width + place) ≡ 2 ^ width * 2 ^ place = pow-add 2 width place in
     let end : place + width ≡ width + place = omega arith in
@@ -108,7 +107,7 @@ taken_parts held line count mask bytes is = elim (cases_lt (length (filter (is_w
 pub covered : DrainsCoverStores
 covered actions line count mask bytes i h byte is there placed covering =
     let taken = taken_parts (held_of actions) line count mask bytes is in
-    let waits = passes_there (is_waiting_on line) (held_of actions) i h (front_get count (filter (is_waiting_on line) (held_of actions)) i h there) in
+    let waits = passes_there (is_waiting_on line) (held_of actions) i h (slice_get-take count (filter (is_waiting_on line) (held_of actions)) i h there) in
     let on_line : line_of h.store.addr ≡ line = eqb-true (line_of h.store.addr) line (and_parts (is_waiting h) (is_on line h.store) waits).1 in
     let inside = inside_store h.store byte placed covering in
     let has = merged_has 0 (taken_by actions line count) i h (byte % 64) there (width_has (h.store.addr % 64) h.store.width (byte % 64) inside.from inside.to) in

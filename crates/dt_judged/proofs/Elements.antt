@@ -28,12 +28,6 @@ kept_or_mapped {X} f (suc n) (x ∷ xs) (suc i) y is = elim (kept_or_mapped f n 
   | inr mapped ↦ inr (record { from = mapped.from; there = mapped.there; gives = mapped.gives })
 ]
 
-pub front_get : {X : Type 0} (n : ℕ) (xs : List X) (i : ℕ) (x : X) → slice_get (take n xs) i ≡ Some x → slice_get xs i ≡ Some x
-front_get zero xs i x is = absurd (cc is)
-front_get (suc n) [] i x is = absurd (cc is)
-front_get (suc n) (y ∷ ys) zero x is = is
-front_get (suc n) (y ∷ ys) (suc i) x is = front_get n ys i x is
-
 -- an element that passes a test stands among those that do
 pub passing_place : {X : Type 0} (p : X → Bool) (xs : List X) (i : ℕ) (x : X) → slice_get xs i ≡ Some x → p x ≡ true → (j : ℕ) × (slice_get (filter p xs) j ≡ Some x)
 passing_place p [] i x is passes = absurd (cc is)

@@ -1,3 +1,3 @@
-mod Covered
+pub mod Covered
 mod Elements
 mod Onward

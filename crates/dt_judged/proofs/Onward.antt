@@ -8,6 +8,8 @@ use Rattle.std.proofs.lemmas.Bool.Decides.{nat_tests}
 use Rattle.std.proofs.lemmas.List.{append-nil, take-append-drop}
 use Rattle.std.proofs.lemmas.List.Elements.{filter-append}
 use Rattle.std.proofs.lemmas.List.Folds.{list_all-append}
+use Rattle.dt_record.proofs.KeyChains.{below-not_above}
+use Rattle.dt_lists.proofs.Lists.{slice_get-take}
 use Rattle.dt_record.specs.declared.keys.Key.{Key}
 use Rattle.dt_record.specs.declared.writes.Write.{Write}
 use Rattle.dt_record.specs.declared.accesses.OwnStore.{OwnStore}
@@ -16,7 +18,7 @@ use Rattle.dt_record.specs.Memory.{line_of}
 use Rattle.dt_record.specs.Actions.{Action, Stored, Drained, Fenced, Loaded, Atomic, Held, held_of, raised, store_covers, ww_fences, wr_fences}
 use Rattle.dt_record.proofs.Holding.{held_from, held-is_from}
 use Rattle.dt_stores.specs.Kept.{Kept}
-use Rattle.dt_stores.specs.Standing.{StandsFor, stores_of}
+use Rattle.dt_stores.specs.Standing.{StoresStand, stores_of}
 use Rattle.dt_stores.specs.Draining.{is_waiting_on, drained_by}
 use Rattle.dt_stores.specs.Places.{is_store_place}
 use Rattle.dt_stores.specs.Plans.{TakesFirst}
@@ -27,12 +29,9 @@ use Rattle.dt_sources.specs.Knowing.{WroteBefore, AreJudged}
 use Rattle.dt_judged.specs.Covering.{taken_by, DrainsCoverStores}
 use Rattle.dt_judged.specs.GoingOn.{IsOnward, IsNewNumber, IsAllowedDrain, JudgedGoesOn}
 use Rattle.dt_judged.proofs.Covered.{taken_parts}
-use Rattle.dt_judged.proofs.Elements.{before_or_last, kept_or_mapped, IsMapped, front_get, passing_place, all_pass}
+use Rattle.dt_judged.proofs.Elements.{before_or_last, kept_or_mapped, IsMapped, passing_place, all_pass}
 
 -- How the actions of a hart go on being judged.
-
-below_onward : (a b c : Key) → KeyBelow a b → key_below c b ≡ false → KeyBelow a c
-below_onward a b c below above = grind (arith, nat_tests)
 
 carried : (writes : List Write) (next after : Key) (byte : ℕ) (key : Key) → IsOnward next after → WroteBefore writes next byte key → WroteBefore writes after byte key
 carried writes next after byte key onward wrote = record {
@@ -40,7 +39,7 @@ carried writes next after byte key onward wrote = record {
   there = wrote.there;
   is_its = wrote.is_its;
   own = wrote.own ∙ onward.hart;
-  before = below_onward key next after wrote.before onward.rises;
+  before = below-not_above key next after wrote.before onward.rises;
   covering = wrote.covering;
 }
 
@@ -88,7 +87,7 @@ apart_from_last (x ∷ xs) s apart new =
     (list_all-append (λ t. not (x.seq == t.seq)) xs (s ∷ []) ∙ and_from (list_all (λ t. not (x.seq == t.seq)) xs) (list_all (λ t. not (x.seq == t.seq)) (s ∷ [])) here.0 (and_from (not (x.seq == s.seq)) true ends.0 refl))
     (apart_from_last xs s here.1 ends.1)
 
-stored_goes_on : StoresGoOn → (kept : Kept) (writes : List Write) (actions : List Action) (s : OwnStore) (next after : Key) → StandsFor kept actions
+stored_goes_on : StoresGoOn → (kept : Kept) (writes : List Write) (actions : List Action) (s : OwnStore) (next after : Key) → StoresStand kept actions
     → AreJudged writes actions next → IsOnward next after → IsTrue (is_store_place s) → IsNewNumber actions s.seq
     → AreJudged writes (then_action actions (Stored s)) after
 stored_goes_on laws kept writes actions s next after stands judged onward placed new = record {
@@ -145,7 +144,7 @@ wrote_by covers_stores writes actions line count next after i h byte onward late
           (eq-eqb w.line (line_of byte) (allowed.on_line ∙ sym covered.0)) (eq-eqb (bit_at w.mask (byte % 64)) 1 covered.1);
     }
 
-drained_goes_on : StoresGoOn → DrainsCoverStores → (kept : Kept) (writes : List Write) (actions : List Action) (line count : ℕ) (next after : Key) → StandsFor kept actions
+drained_goes_on : StoresGoOn → DrainsCoverStores → (kept : Kept) (writes : List Write) (actions : List Action) (line count : ℕ) (next after : Key) → StoresStand kept actions
     → AreJudged writes actions next → IsOnward next after → KeyBelow next after → IsAllowedDrain writes actions next line count
     → AreJudged writes (then_action actions (Drained next line count)) after
 drained_goes_on laws covers_stores kept writes actions line count next after stands judged onward later allowed =
@@ -168,7 +167,7 @@ drained_goes_on laws covers_stores kept writes actions line count next after sta
         let among : slice_get (taken_by actions line count) place.0 ≡ Some g = ap (λ l. slice_get l place.0) (first_are_taken line count takes.end (held_of actions) takes.enough) ∙ place.1 in
         wrote_by covers_stores writes actions line count next after place.0 g byte onward later allowed among
         (placed_there actions [] 0 0 actions i g judged.placed
-        (ap (λ l. slice_get l i) (sym (held-is_from actions)) ∙ front_get takes.end (held_of actions) i g there)) covering
+        (ap (λ l. slice_get l i) (sym (held-is_from actions)) ∙ slice_get-take takes.end (held_of actions) i g there)) covering
 
     by_cases : (i : ℕ) (h : Held) (key : Key) (byte : ℕ) → IsMapped (drained_by line next) (take takes.end (held_of actions)) i h
         → h.drained ≡ Some key → IsTrue (store_covers byte h.store) → WroteBefore writes after byte key
@@ -182,7 +181,7 @@ drained_goes_on laws covers_stores kept writes actions line count next after sta
               subst (WroteBefore writes after byte) its (now_taken i g byte mapped.there waits (ap (store_covers byte) same ∙ covering))
           | inr other ↦
               let same : g ≡ h = rw other at mapped.gives in
-              let there : slice_get (held_of actions) i ≡ Some h = front_get takes.end (held_of actions) i g mapped.there ∙ ap (λ (b : Held). Some b) same in
+              let there : slice_get (held_of actions) i ≡ Some h = slice_get-take takes.end (held_of actions) i g mapped.there ∙ ap (λ (b : Held). Some b) same in
               carried writes next after byte key onward (judged.drained i h key byte there taken covering)
         ]
 

@@ -6,7 +6,7 @@ use Rattle.dt_record.specs.Keys.{KeyBelow, key_below}
 use Rattle.dt_record.specs.Actions.{Action, Stored, Drained}
 use Rattle.dt_stores.specs.declared.answers.DrainAnswer.TheVariants as answer
 use Rattle.dt_stores.specs.Kept.{Kept}
-use Rattle.dt_stores.specs.Standing.{StandsFor, stores_of}
+use Rattle.dt_stores.specs.Standing.{StoresStand, stores_of}
 use Rattle.dt_stores.specs.Draining.{drain_answer}
 use Rattle.dt_stores.specs.Places.{is_store_place}
 use Rattle.dt_stores.specs.GoingOn.{is_quiet}
@@ -47,9 +47,9 @@ pub record JudgedGoesOn : Type 0 where
   pub quiet : (writes : List Write) (actions : List Action) (action : Action) (next after : Key)
       → AreJudged writes actions next → IsOnward next after → IsTrue (is_quiet action)
       → AreJudged writes (then_action actions action) after
-  pub stored : (kept : Kept) (writes : List Write) (actions : List Action) (s : OwnStore) (next after : Key) → StandsFor kept actions
+  pub stored : (kept : Kept) (writes : List Write) (actions : List Action) (s : OwnStore) (next after : Key) → StoresStand kept actions
       → AreJudged writes actions next → IsOnward next after → IsTrue (is_store_place s) → IsNewNumber actions s.seq
       → AreJudged writes (then_action actions (Stored s)) after
-  pub drained : (kept : Kept) (writes : List Write) (actions : List Action) (line count : ℕ) (next after : Key) → StandsFor kept actions
+  pub drained : (kept : Kept) (writes : List Write) (actions : List Action) (line count : ℕ) (next after : Key) → StoresStand kept actions
       → AreJudged writes actions next → IsOnward next after → KeyBelow next after → IsAllowedDrain writes actions next line count
       → AreJudged writes (then_action actions (Drained next line count)) after

@@ -4,7 +4,7 @@ use mathlib.Core.List.{IsPrefix}
 use Rattle.dt_record.specs.declared.records.Record.{Record}
 use Rattle.dt_record.specs.declared.writes.Write.{Write}
 use Rattle.dt_queue.specs.Queue.{QueueName}
-use Rattle.dt_intake.specs.Fronts.{last_stamp}
+use Rattle.dt_intake.specs.Fronts.{stamp_after}
 use Rattle.dt_intake.specs.Intakes.{IntakeView, is_feed_end, usable_of, is_over, has_news}
 use Rattle.dt_runs.specs.RunView.{RunView}
 use Rattle.dt_runs.specs.Runs.{AreOwn, Runs}
@@ -41,7 +41,7 @@ pub record IsLane (l : LaneView) : Type 0 where
   pub number : l.run.hart.arch.hart ≡ l.intake.hart
   pub popped : IsPopped l.intake.ended l.intake.taken l.popped
   pub within : judged_len l.run ≤ length (usable_of l.intake)
-  pub stamp : l.run.hart.stamp ≡ last_stamp 0 (take l.run.hart.seq (usable_of l.intake))
+  pub stamp : l.run.hart.stamp ≡ stamp_after 0 (take l.run.hart.seq (usable_of l.intake))
 
 -- all usable records are judged, or one is not allowed
 abbrev pub is_judged : LaneView → Bool

@@ -2,21 +2,13 @@ use Rattle.std.proofs.Common.{ℕ, ◌≡◌, ◌+◌, ◌≤◌, Bool, true, no
 use Rattle.std.specs.List.{list_all, prefix_len}
 use Rattle.std.proofs.lemmas.Bool.{and_parts, cases_Bool}
 use Rattle.std.proofs.lemmas.List.Sums.{prefix_len-le-length}
+use Rattle.dt_lists.proofs.Lists.{list_all-later, within_prefix}
 use Rattle.dt_record.specs.declared.keys.Key.{Key}
 use Rattle.dt_record.specs.declared.writes.Write.{Write}
 use Rattle.dt_record.specs.Visible.{IsVisible, must_see, cannot_see}
 use Rattle.dt_versions.specs.Spans.{AreVisible, last_visible}
 
 -- The greatest visible moment.
-
-within_prefix : {X : Type 0} (p : X → Bool) (k : ℕ) (xs : List X) → k ≤ length xs → IsTrue (list_all p (take k xs)) → k ≤ prefix_len p xs
-within_prefix p zero xs within all = omega arith
-within_prefix p (suc k) [] within all = absurd (omega arith)
-within_prefix p (suc k) (x ∷ xs) within all =
-    let parts = and_parts (p x) (list_all p (take k xs)) all in
-    let passes : p x ≡ true = parts.0 in
-    let rest : k ≤ prefix_len p xs = within_prefix p k xs (omega arith) parts.1 in
-    rw passes (omega arith)
 
 prefix_passes : {X : Type 0} (p : X → Bool) (xs : List X) → IsTrue (list_all p (take (prefix_len p xs) xs))
 prefix_passes p [] = refl
@@ -25,14 +17,6 @@ prefix_passes p (x ∷ xs) = elim (cases_Bool (p x)) [
   | inr stops ↦ rw stops refl
 ]
 
-later_all : {X : Type 0} (p : X → Bool) (j k : ℕ) (xs : List X) → j ≤ k → IsTrue (list_all p (drop j xs)) → IsTrue (list_all p (drop k xs))
-later_all p zero zero xs rises all = all
-later_all p zero (suc k) [] rises all = refl
-later_all p zero (suc k) (x ∷ xs) rises all = later_all p zero k xs (omega arith) (and_parts (p x) (list_all p xs) all).1
-later_all p (suc j) zero xs rises all = absurd (omega arith)
-later_all p (suc j) (suc k) [] rises all = refl
-later_all p (suc j) (suc k) (x ∷ xs) rises all = later_all p j k xs (omega arith) all
-
 pub end_is_last : (writes : List Write) (key : Key) (at first last : ℕ) → AreVisible writes key at first last → last ≡ last_visible writes key at
 end_is_last writes key at first last visible =
     let seen : IsVisible writes key at last = (visible.exact last).1 (visible.never_empty, omega arith) in
@@ -40,7 +24,7 @@ end_is_last writes key at first last visible =
     let top : IsVisible writes key at (last_visible writes key at) = record {
       within = prefix_len-le-length (λ w. not (cannot_see key at w)) writes;
       seen = prefix_passes (λ w. not (cannot_see key at w)) writes;
-      unseen = later_all (λ w. not (must_see key at w)) last (last_visible writes key at) writes below seen.unseen;
+      unseen = list_all-later (λ w. not (must_see key at w)) last (last_visible writes key at) writes below seen.unseen;
     } in
     let above : last_visible writes key at ≤ last = ((visible.exact (last_visible writes key at)).0 top).1 in
     omega arith

@@ -1,8 +1,8 @@
 mod AnAnswer
 mod Deciding
 mod FoundValues
-mod LastVisible
-mod Lines
-mod Moments
+pub mod LastVisible
+pub mod Lines
+pub mod Moments
 mod NewerWrites
 mod OneAnswer

@@ -12,7 +12,7 @@ use Rattle.dt_sources.specs.Finding.{is_load_place}
 access_width : (width : ℕ) → IsTrue (is_store_width width) → IsAccessWidth width
 access_width width is = grind (arith, nat_tests)
 
-narrow : (width : ℕ) → IsAccessWidth width → width ≤ 8
+pub narrow : (width : ℕ) → IsAccessWidth width → width ≤ 8
 narrow width (inl one) = omega arith
 narrow width (inr (inl two)) = omega arith
 narrow width (inr (inr (inl four))) = omega arith
@@ -38,10 +38,10 @@ pub record LiesInLine (ask : LoadAsk) : Type 0 where
   pub from : 0x8000_0000 ≤ ask.addr
   pub end : ask.addr + ask.width ≤ 0x8400_0000
 
-in_ram : (addr : ℕ) → IsTrue (is_in_ram addr) → (0x8000_0000 ≤ addr) × (addr < 0x8400_0000)
+pub in_ram : (addr : ℕ) → IsTrue (is_in_ram addr) → (0x8000_0000 ≤ addr) × (addr < 0x8400_0000)
 in_ram addr is = grind (arith, nat_tests)
 
-is_zero : (n : ℕ) → IsTrue (n == 0) → n ≡ 0
+pub is_zero : (n : ℕ) → IsTrue (n == 0) → n ≡ 0
 is_zero n is = grind (arith, nat_tests)
 
 pub lies_in_line : (ask : LoadAsk) → IsTrue (is_load_place ask) → LiesInLine ask

@@ -1,6 +1,7 @@
 use Rattle.std.proofs.Common.{ℕ, ◌≡◌, ◌==◌, Some, List, [], ◌∷◌, ◌++◌, length, refl}
 use Rattle.std.specs.List.{slice_get}
 use Rattle.std.proofs.lemmas.Bool.{cond-true, eq-eqb}
+use Rattle.dt_lists.proofs.Lists.{slice_get-end}
 use Rattle.dt_record.specs.declared.accesses.LoadAsk.{LoadAsk}
 use Rattle.dt_record.specs.Actions.{Action, Loaded}
 use Rattle.dt_sources.specs.Choice.{then_action, with_moment}
@@ -10,9 +11,5 @@ use Rattle.dt_sources.specs.Choice.{then_action, with_moment}
 pub moment_here : (moments : ℕ → ℕ) (place k : ℕ) → with_moment moments place k place ≡ k
 moment_here moments place k = cond-true (place == place) k (moments place) (eq-eqb place place refl)
 
-at_seam : {X : Type 0} (xs : List X) (x : X) → slice_get (xs ++ x ∷ []) (length xs) ≡ Some x
-at_seam [] x = refl
-at_seam (y ∷ ys) x = at_seam ys x
-
 pub next_seam : (actions : List Action) (ask : LoadAsk) → slice_get (then_action actions (Loaded ask)) (length actions) ≡ Some (Loaded ask)
-next_seam actions ask = at_seam actions (Loaded ask)
+next_seam actions ask = slice_get-end actions (Loaded ask)

@@ -1,6 +1,7 @@
 use Rattle.std.proofs.Common.{ℕ, ◌≡◌, ◌+◌, ◌↔◌, false, Option, Some, None, List, IsTrue, refl, sym, ap, subst, ◌∙◌, arith}
 use Rattle.std.proofs.lemmas.Bool.{false≢true}
 use Rattle.std.proofs.lemmas.Bool.Decides.{nat_tests}
+use Rattle.dt_record.proofs.KeyChains.{below-chain}
 use Rattle.dt_record.specs.declared.keys.Key.{Key}
 use Rattle.dt_record.specs.declared.writes.Write.{Write}
 use Rattle.dt_record.specs.declared.accesses.LoadAsk.{LoadAsk}
@@ -18,12 +19,9 @@ use Rattle.dt_loads.specs.Reading.{HasNewer}
 
 -- Comparing with the newest key that is known decides whether a write is newer than all.
 
-below_chain : (a b c : Key) → key_below b a ≡ false → KeyBelow b c → KeyBelow a c
-below_chain a b c above below = grind (arith, nat_tests)
-
 above_all : (Is : Key → Type 0) (newest : Option Key) (key : Key) → IsGreatest Is newest → IsTrue (is_newer_than newest (origin.Write key)) → (known : Key) → Is known → KeyBelow known key
 above_all Is None key greatest newer known is = absurd (false≢true (sym (greatest.bound known is)))
-above_all Is (Some n) key greatest newer known is = below_chain known n key (greatest.bound known is) newer
+above_all Is (Some n) key greatest newer known is = below-chain known n key (greatest.bound known is) newer
 
 above_newest : (Is : Key → Type 0) (newest : Option Key) (key : Key) → IsGreatest Is newest → ((known : Key) → Is known → KeyBelow known key) → IsTrue (is_newer_than newest (origin.Write key))
 above_newest Is None key greatest above = refl

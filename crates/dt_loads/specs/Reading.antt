@@ -11,7 +11,7 @@ use Rattle.dt_record.specs.LoadSources.{origin_of, found_value, HasSources, AreL
 use Rattle.dt_versions.specs.History.{History, are_in_order}
 use Rattle.dt_versions.specs.Spans.{last_visible}
 use Rattle.dt_stores.specs.Kept.{Kept}
-use Rattle.dt_stores.specs.Standing.{StandsFor}
+use Rattle.dt_stores.specs.Standing.{StoresStand}
 use Rattle.dt_local.specs.LocalMemory.{LocalMemory}
 use Rattle.dt_sources.specs.Finding.{AreSourcesAt}
 use Rattle.dt_sources.specs.Choice.{then_action, with_moment}
@@ -80,7 +80,7 @@ IsLoadAnswer image writes actions moments ask signed value (Err refused) =
 -- What is kept of a hart is what these actions left before a load with this key: its loads read at the moments
 -- of the least fitting assignment, over writes that stand in the order of their keys.
 pub record IsPast (h : History) (kept : Kept) (local : LocalMemory) (key : Key) (actions : List Action) (moments : ℕ → ℕ) : Type 0 where
-  pub stores : StandsFor kept actions
+  pub stores : StoresStand kept actions
   pub knows : Knows local h.writes actions moments key
   pub judged : AreJudged h.writes actions key
   pub in_order : IsTrue (are_in_order h.writes)

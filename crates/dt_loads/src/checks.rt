@@ -1,7 +1,7 @@
 ghost use Rattle.std.specs.Prelude.{◌≡◌, List};
 ghost use Rattle.dt_alu.specs.Extend.{IsAccessWidth};
 ghost use Rattle.dt_record.specs.Actions.{Action, order_floor};
-ghost use Rattle.dt_stores.specs.Standing.{StandsFor};
+ghost use Rattle.dt_stores.specs.Standing.{StoresStand};
 ghost use Rattle.dt_loads.specs.Checks.{device_check, order_check};
 
 use dt_alu::extend;
@@ -29,7 +29,7 @@ pub fn device_value(width: u8, signed: bool, value: u64) -> Result<(), Misfit>
 /// stores before the last write-before-read fence. A misfit expects the floor or the seq of the
 /// oldest store that is still undrained, and found the cycle.
 pub fn order(s: &Stores, floor: u64, at: u64) -> Result<(), Misfit>
-    ensures { (actions : List Action) → StandsFor s.now actions → floor ≡ order_floor actions → result ≡ order_check actions at }
+    ensures { (actions : List Action) → StoresStand s.now actions → floor ≡ order_floor actions → result ≡ order_check actions at }
 {
     if at < floor {
         return Err(Misfit {

@@ -3,7 +3,7 @@ ghost use Rattle.dt_alu.specs.Extend.{IsAccessWidth};
 ghost use Rattle.dt_record.specs.Actions.{Action};
 ghost use Rattle.dt_record.specs.declared.limits.TheConstants.{RAM_END, RAM_START};
 ghost use Rattle.dt_record.specs.LoadSources.{found_byte, found_value};
-ghost use Rattle.dt_stores.specs.Standing.{StandsFor};
+ghost use Rattle.dt_stores.specs.Standing.{StoresStand};
 ghost use Rattle.dt_sources.specs.Finding.{is_load_place};
 ghost use Rattle.dt_rules.specs.Checks.{misfit};
 ghost use Rattle.dt_record.specs.declared.reasons.Reason.TheVariants.{LoadSource};
@@ -105,7 +105,7 @@ pub fn is_newer(from: Origin, newest: Option<Key>) -> bool
 fn refusal(m: &Moments, s: &Stores, ask: LoadAsk, signed: bool, value: u64) -> Misfit
     requires early { ask.at ≤ ask.key.stamp }
     requires place { IsTrue (is_load_place ask) }
-    ensures { (actions : List Action) → StandsFor s.now actions
+    ensures { (actions : List Action) → StoresStand s.now actions
         → result ≡ misfit LoadSource (expected_load m.now.image m.now.writes actions ask signed) value }
 {
     let last = m.visible(ask.key, ask.at).last;
@@ -120,7 +120,7 @@ fn refusal(m: &Moments, s: &Stores, ask: LoadAsk, signed: bool, value: u64) -> M
 fn found_at(m: &Moments, s: &Stores, k: u32, ask: LoadAsk) -> u64
     requires within { k ≤ length m.now.writes }
     requires place { IsTrue (is_load_place ask) }
-    ensures { (actions : List Action) → StandsFor s.now actions
+    ensures { (actions : List Action) → StoresStand s.now actions
         → result ≡ found_value m.now.image m.now.writes actions ask k ask.width ask.addr }
 {
     let mut found = 0;
@@ -135,7 +135,7 @@ fn byte_at(m: &Moments, s: &Stores, k: u32, ask: LoadAsk, addr: u64) -> u8
     requires within { k ≤ length m.now.writes }
     requires in_ram { RAM_START ≤ addr }
     requires before_end { addr < RAM_END }
-    ensures { (actions : List Action) → StandsFor s.now actions → result ≡ found_byte m.now.image m.now.writes actions ask k addr }
+    ensures { (actions : List Action) → StoresStand s.now actions → result ≡ found_byte m.now.image m.now.writes actions ask k addr }
 {
     match s.forward(addr, ask.at) {
         Some(f) => f.byte,

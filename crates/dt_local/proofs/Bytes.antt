@@ -11,6 +11,7 @@ use Rattle.std.proofs.lemmas.Bool.{cases_Bool, cases_eq, cases_lt, cond-true, co
 use Rattle.std.proofs.lemmas.Bool.Decides.{nat_tests}
 use Rattle.std.proofs.lemmas.Map.Keys.{sorted_head, sorted_tail}
 use Rattle.std.proofs.lemmas.Nat.Bits.{bit_at-zero}
+use Rattle.dt_lists.proofs.Lists.{option_or-none}
 use Rattle.dt_record.specs.declared.keys.Key.{Key}
 use Rattle.dt_local.specs.declared.slots.Slot.{Slot}
 use Rattle.dt_local.specs.Slots.{Entries, key_at, word_bytes, present, known_bytes, slot_key}
@@ -87,10 +88,6 @@ none_above word [] above = refl
 none_above word (e ∷ es) above =
     cond-false (is_at (nat_cmp word) e.0) (Some e.1) (lookup (is_at (nat_cmp word)) es) (ap is_eq above.0) ∙ none_above word es above.1
 
-or-none : {X : Type 0} (o : Option X) → option_or o None ≡ o
-or-none None = refl
-or-none (Some x) = refl
-
 pub at_same : (word a : ℕ) → a ≡ word → is_at (nat_cmp word) a ≡ true
 at_same word a same = grind (arith, nat_tests)
 
@@ -107,7 +104,7 @@ newest-known_bytes addr (e ∷ es) ordered =
           let above : AllByRecursion (λ a. nat_cmp (addr / 8) a ≡ Less) (keys_of es) = rw its (sorted_head nat_cmp e.0 (keys_of es) ordered) in
           let none : slot_key es addr ≡ None = ap (option_and_then (λ slot. key_at slot (addr % 8))) (none_above (addr / 8) es above) in
           ap (λ (o : Option Key). option_or (lookup (λ a. a == addr) (present (word_bytes e))) o) (rest ∙ none)
-          ∙ or-none (lookup (λ a. a == addr) (present (word_bytes e))) ∙ in_word addr e its
+          ∙ option_or-none (lookup (λ a. a == addr) (present (word_bytes e))) ∙ in_word addr e its
           ∙ ap (option_and_then (λ slot. key_at slot (addr % 8)))
           (sym (cond-true (is_at (nat_cmp (addr / 8)) e.0) (Some e.1) (lookup (is_at (nat_cmp (addr / 8))) es) (at_same (addr / 8) e.0 (sym its))))
       | inr other ↦

@@ -13,14 +13,14 @@ use Rattle.dt_tallies.specs.Naming.{named_notes}
 use Rattle.dt_verdict.specs.declared.verdicts.Verdict.{Verdict}
 use Rattle.dt_verdict.specs.Laws.{VerdictsAreLeast}
 use Rattle.dt_verdict.specs.Verdict.{verdict_of}
-use Rattle.dt_pass.specs.Checked.{HartRun, IsRun, limit_of, notes_of, outcome_of}
+use Rattle.dt_pass.specs.Checked.{AllowedRun, IsRun, limit_of, notes_of, outcome_of}
 use Rattle.dt_pass.specs.Laws.{AFileHasACheck}
 use Rattle.dt_pass.proofs.OneCheck.{checked_made, run_made}
 
 -- a run for each of these harts
 record AreRunsFor (image : List ℕ) (wide : Bool) (records : List Record) (harts : List ℕ) : Type 0 where
-  pub runs : List HartRun
-  pub harts_are : map (λ (run : HartRun). run.hart) runs ≡ harts
+  pub runs : List AllowedRun
+  pub harts_are : map (λ (run : AllowedRun). run.hart) runs ≡ harts
   pub each : All (IsRun image wide records) runs
 
 -- each hart has one, since its records have a run to their end
@@ -28,7 +28,7 @@ runs_for : RunsHaveAnEnd → WritesStandInOrder → (image : List ℕ) (wide : B
 runs_for law ordered image wide records [] = record { runs = []; harts_are = refl; each = All-nil (IsRun image wide records) }
 runs_for law ordered image wide records (hart ∷ harts) =
     let end : HasEnd image (writes_of records) wide hart (records_of hart records) = law image (writes_of records) wide hart (records_of hart records) (ordered records) in
-    let run : HartRun = run_made hart end.allowed end.refused in
+    let run : AllowedRun = run_made hart end.allowed end.refused in
     let rest = runs_for law ordered image wide records harts in
     record {
       runs = run ∷ rest.runs;

@@ -8,7 +8,7 @@ use Rattle.dt_record.specs.declared.records.Record.{Record}
 use Rattle.dt_versions.specs.History.{History}
 use Rattle.dt_verdict.specs.declared.tallies.Noted.{Noted}
 use Rattle.dt_verdict.specs.declared.verdicts.Outcome.{Outcome}
-use Rattle.dt_pass.specs.Checked.{HartRun, IsRun, notes_of, outcome_of}
+use Rattle.dt_pass.specs.Checked.{AllowedRun, IsRun, notes_of, outcome_of}
 use Rattle.dt_pass.specs.Running.{AreRunsOf, IsRunOf}
 
 pub none_yet : (held : History) (wide : Bool) (records : List Record) (outcomes : List Outcome) (notes : List Noted) → outcomes ≡ [] → notes ≡ [] → AreRunsOf held wide 0 records outcomes notes
@@ -32,7 +32,7 @@ one_more held wide hart records outcomes more outcome before own after all one p
   runs = all.runs ++ one.run ∷ [];
   are_runs = record {
     harts_are =
-        map-append (λ (run : HartRun). run.hart) all.runs (one.run ∷ [])
+        map-append (λ (run : AllowedRun). run.hart) all.runs (one.run ∷ [])
         ∙ ap (λ (ks : List ℕ). ks ++ one.run.hart ∷ []) all.are_runs.harts_are
         ∙ ap (λ n. range_with_len 0 hart ++ n ∷ []) one.hart_is
         ∙ sym (range-push hart);

@@ -15,13 +15,13 @@ use Rattle.dt_verdict.specs.declared.verdicts.Failure.{Failure}
 use Rattle.dt_verdict.specs.declared.verdicts.Outcome.{Outcome}
 use Rattle.dt_verdict.specs.Verdict.{failures_of, IsVerdict}
 use Rattle.dt_runs.specs.Noting.{failure_at}
-use Rattle.dt_pass.specs.Checked.{AreRuns, HartRun, IsRun, failure_of, outcome_of}
+use Rattle.dt_pass.specs.Checked.{AreRuns, AllowedRun, IsRun, failure_of, outcome_of}
 use Rattle.dt_pass.specs.Laws.{AllAllowed, FailsAt, FailIsFirst, IsNotSooner, PassIsAllAllowed}
 
 -- ---- one hart
 
 -- all records of a hart are allowed, or it has this failure
-pub record Fails (image : List ℕ) (wide : Bool) (records : List Record) (run : HartRun) : Type 0 where
+pub record Fails (image : List ℕ) (wide : Bool) (records : List Record) (run : AllowedRun) : Type 0 where
   pub failure : Failure
   pub fails : FailsAt image wide records run.hart failure
   pub is : failure_of (records_of run.hart records) run ≡ Some failure
@@ -49,24 +49,24 @@ failed_by image wide records hart allowed (Some m) f runs fails =
     = sym (ap (option_map (λ (r : Record). failure_at (key_of (length allowed) r) m)) end.1) ∙ fails in
     record { allowed = allowed; misfit = m; own = end.0; runs = runs; there = end.1; failure = sym (same_Some (failure_at (key_of (length allowed) end.0) m) f found) }
 
-failed : (image : List ℕ) (wide : Bool) (records : List Record) (run : HartRun) (f : Failure) → IsRun image wide records run → failure_of (records_of run.hart records) run ≡ Some f
+failed : (image : List ℕ) (wide : Bool) (records : List Record) (run : AllowedRun) (f : Failure) → IsRun image wide records run → failure_of (records_of run.hart records) run ≡ Some f
     → FailsAt image wide records run.hart f
 failed image wide records run f is fails = failed_by image wide records run.hart run.allowed run.refused f is fails
 
 -- ---- among all harts
 
-any_run : HartRun
+any_run : AllowedRun
 any_run = record { hart = 0; allowed = []; refused = None }
 
-pub record RunAt (image : List ℕ) (wide : Bool) (records : List Record) (runs : List HartRun) (hart : ℕ) : Type 0 where
-  pub run : HartRun
+pub record RunAt (image : List ℕ) (wide : Bool) (records : List Record) (runs : List AllowedRun) (hart : ℕ) : Type 0 where
+  pub run : AllowedRun
   pub there : slice_get runs hart ≡ Some run
   pub hart_is : run.hart ≡ hart
   pub is_run : IsRun image wide records run
 
-run_at : (image : List ℕ) (wide : Bool) (harts : ℕ) (records : List Record) (runs : List HartRun) (hart : ℕ) → AreRuns image wide harts records runs → hart < harts → RunAt image wide records runs hart
+run_at : (image : List ℕ) (wide : Bool) (harts : ℕ) (records : List Record) (runs : List AllowedRun) (hart : ℕ) → AreRuns image wide harts records runs → hart < harts → RunAt image wide records runs hart
 run_at image wide harts records runs hart are within =
-    let number = λ (run : HartRun). run.hart in
+    let number = λ (run : AllowedRun). run.hart in
     let long : length runs ≡ harts = sym (length-map runs number) ∙ ap length are.harts_are ∙ length-range_with_len 0 harts in
     let inside : hart < length runs = omega arith in
     let run = get_or runs hart any_run in
@@ -113,7 +113,7 @@ among (p ∷ ps) f c = among_cons p ps f (among ps f) p.failure refl c
 
 -- ---- the laws
 
-outcome_at : (records : List Record) (runs : List HartRun) (k : ℕ) (run : HartRun) → slice_get runs k ≡ Some run → slice_get (map (outcome_of records) runs) k ≡ Some (outcome_of records run)
+outcome_at : (records : List Record) (runs : List AllowedRun) (k : ℕ) (run : AllowedRun) → slice_get runs k ≡ Some run → slice_get (map (outcome_of records) runs) k ≡ Some (outcome_of records run)
 outcome_at records runs k run there = slice_get-map (outcome_of records) runs k ∙ ap (option_map (outcome_of records)) there
 
 -- a hart without a failure among all has none, and one with a failure has it among all
@@ -130,9 +130,9 @@ pass_is_all_allowed image wide harts records checked is passes hart within =
     ])
 
 -- the harts stand in their order
-number_at : (harts : ℕ) (runs : List HartRun) (k : ℕ) (run : HartRun) → map (λ (r : HartRun). r.hart) runs ≡ range_with_len 0 harts → slice_get runs k ≡ Some run → (k < harts) × (run.hart ≡ k)
+number_at : (harts : ℕ) (runs : List AllowedRun) (k : ℕ) (run : AllowedRun) → map (λ (r : AllowedRun). r.hart) runs ≡ range_with_len 0 harts → slice_get runs k ≡ Some run → (k < harts) × (run.hart ≡ k)
 number_at harts runs k run are there =
-    let number = λ (r : HartRun). r.hart in
+    let number = λ (r : AllowedRun). r.hart in
     let long : length runs ≡ harts = sym (length-map runs number) ∙ ap length are ∙ length-range_with_len 0 harts in
     let within : k < harts = omega (arith, slice_get_within runs k run there) in
     let numbered : slice_get (map number runs) k ≡ Some run.hart = slice_get-map number runs k ∙ ap (option_map number) there in

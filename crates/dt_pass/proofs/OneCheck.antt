@@ -18,14 +18,14 @@ use Rattle.dt_verdict.specs.declared.tallies.Counts.{Counts}
 use Rattle.dt_verdict.specs.declared.tallies.Noted.{Noted}
 use Rattle.dt_verdict.specs.declared.verdicts.Verdict.{Verdict}
 use Rattle.dt_verdict.specs.Verdict.{verdict_of}
-use Rattle.dt_pass.specs.Checked.{HartRun, IsRun, limit_of, notes_of, outcome_of}
+use Rattle.dt_pass.specs.Checked.{AllowedRun, IsRun, limit_of, notes_of, outcome_of}
 use Rattle.dt_pass.specs.Laws.{AFileHasOneCheck}
 
-abbrev pub run_made : ℕ → List Passed → Option Misfit → HartRun
+abbrev pub run_made : ℕ → List Passed → Option Misfit → AllowedRun
 run_made hart allowed refused = record { hart = hart; allowed = allowed; refused = refused }
 
 -- a hart has one run
-same_run : RunsHaveOneEnd → WritesStandInOrder → (image : List ℕ) (wide : Bool) (records : List Record) (one other : HartRun) → one.hart ≡ other.hart
+same_run : RunsHaveOneEnd → WritesStandInOrder → (image : List ℕ) (wide : Bool) (records : List Record) (one other : AllowedRun) → one.hart ≡ other.hart
     → IsRun image wide records one → IsRun image wide records other → one ≡ other
 same_run law ordered image wide records one other numbers is also =
     let there : RunsTo image (writes_of records) wide one.hart (records_of one.hart records) other.allowed other.refused
@@ -36,14 +36,14 @@ same_run law ordered image wide records one other numbers is also =
     ∙ ap (λ refused. run_made other.hart other.allowed refused) end.1
 
 -- so the harts have one list of runs
-same_runs : RunsHaveOneEnd → WritesStandInOrder → (image : List ℕ) (wide : Bool) (records : List Record) (runs others : List HartRun)
-    → map (λ (run : HartRun). run.hart) runs ≡ map (λ (run : HartRun). run.hart) others
+same_runs : RunsHaveOneEnd → WritesStandInOrder → (image : List ℕ) (wide : Bool) (records : List Record) (runs others : List AllowedRun)
+    → map (λ (run : AllowedRun). run.hart) runs ≡ map (λ (run : AllowedRun). run.hart) others
     → All (IsRun image wide records) runs → All (IsRun image wide records) others → runs ≡ others
 same_runs law ordered image wide records [] [] numbers are also = refl
 same_runs law ordered image wide records [] (other ∷ others) numbers are also = absurd (cc)
 same_runs law ordered image wide records (run ∷ runs) [] numbers are also = absurd (cc)
 same_runs law ordered image wide records (run ∷ runs) (other ∷ others) numbers are also =
-    let number : HartRun → ℕ = λ run. run.hart in
+    let number : AllowedRun → ℕ = λ run. run.hart in
     let all : run.hart ∷ map number runs ≡ other.hart ∷ map number others = numbers in
     let first : run ≡ other = same_run law ordered image wide records run other (cc) (All-head (IsRun image wide records) run runs are) (All-head (IsRun image wide records) other others also) in
     let rest : runs ≡ others = same_runs law ordered image wide records runs others (cc) (All-tail (IsRun image wide records) run runs are) (All-tail (IsRun image wide records) other others also) in

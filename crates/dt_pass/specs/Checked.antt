@@ -25,21 +25,21 @@ use Rattle.dt_reading.specs.Reading.{HasCome}
 
 -- How far the records of one hart are allowed: those that are, each with its letters and sources, and why the next one,
 -- if there is one, is not.
-pub record HartRun : Type 0 where
+pub record AllowedRun : Type 0 where
   pub hart : ℕ
   pub allowed : List Passed
   pub refused : Option Misfit
 
 -- the failure of a hart with these records: its first record that is not allowed, where there is one
-abbrev pub failure_of : List Record → HartRun → Option Failure
+abbrev pub failure_of : List Record → AllowedRun → Option Failure
 failure_of own run = failure_after own (length run.allowed) run.refused
 
 -- the outcome of a hart of a file with these records
-abbrev pub outcome_of : List Record → HartRun → Outcome
+abbrev pub outcome_of : List Record → AllowedRun → Outcome
 outcome_of records run = record { hart = run.hart; failure = failure_of (records_of run.hart records) run }
 
 -- the notes of a hart of a file with these records
-abbrev pub notes_of : List Record → HartRun → List Noted
+abbrev pub notes_of : List Record → AllowedRun → List Noted
 notes_of records run = notes_from 0 (records_of run.hart records) run.allowed
 
 -- the key below which records are counted and named, where there is one
@@ -48,18 +48,18 @@ limit_of Pass = None
 limit_of (Fail f) = Some f.key
 
 -- a hart's records among these are allowed as far as the run says
-abbrev pub IsRun : (image : List ℕ) (wide : Bool) → List Record → HartRun → Type 0
+abbrev pub IsRun : (image : List ℕ) (wide : Bool) → List Record → AllowedRun → Type 0
 IsRun image wide records run = RunsTo image (writes_of records) wide run.hart (records_of run.hart records) run.allowed run.refused
 
 -- one run for each hart of a file with so many harts and these records, hart 0 first, over the image and all writes of the file
-pub record AreRuns (image : List ℕ) (wide : Bool) (harts : ℕ) (records : List Record) (runs : List HartRun) : Type 0 where
-  pub harts_are : map (λ (run : HartRun). run.hart) runs ≡ range_with_len 0 harts
+pub record AreRuns (image : List ℕ) (wide : Bool) (harts : ℕ) (records : List Record) (runs : List AllowedRun) : Type 0 where
+  pub harts_are : map (λ (run : AllowedRun). run.hart) runs ≡ range_with_len 0 harts
   pub each : All (IsRun image wide records) runs
 
 -- What checking comes to: the verdict over all harts; and of the records below the failing one, or of all, the counts of
 -- each hart, and what a report names.
 pub record IsChecked (image : List ℕ) (wide : Bool) (harts : ℕ) (records : List Record) (checked : Checked) : Type 0 where
-  pub runs : List HartRun
+  pub runs : List AllowedRun
   pub are_runs : AreRuns image wide harts records runs
   pub harts_are : checked.harts ≡ harts
   pub verdict : checked.verdict ≡ verdict_of (map (outcome_of records) runs)
@@ -68,19 +68,19 @@ pub record IsChecked (image : List ℕ) (wide : Bool) (harts : ℕ) (records : L
   pub notes : checked.tallies.notes ≡ named_notes (limit_of checked.verdict) (flat_map (notes_of records) runs)
 
 -- the notes that these have below a limit are those that a file with these runs has
-abbrev pub AreNotesBelow : Option Key → List Noted → List Record → List HartRun → Type 0
+abbrev pub AreNotesBelow : Option Key → List Noted → List Record → List AllowedRun → Type 0
 AreNotesBelow limit notes records runs =
     filter (λ n. is_below limit n.key) notes ≡ filter (λ n. is_below limit n.key) (flat_map (notes_of records) runs)
 
 -- this is the verdict over all harts of a file with these runs
-pub record IsVerdictOver (records : List Record) (runs : List HartRun) (verdict : Verdict) : Type 0 where
+pub record IsVerdictOver (records : List Record) (runs : List AllowedRun) (verdict : Verdict) : Type 0 where
   pub is : verdict ≡ verdict_of (map (outcome_of records) runs)
   pub least : IsVerdict (map (outcome_of records) runs) verdict
 
 -- A verdict and notes come to this check: over any image, where the harts' runs have this verdict, and notes that are these
 -- below it.
 abbrev pub ComesTo : (harts : ℕ) → List Record → Verdict → List Noted → Checked → Type 0
-ComesTo harts records verdict notes checked = (image : List ℕ) (wide : Bool) (runs : List HartRun)
+ComesTo harts records verdict notes checked = (image : List ℕ) (wide : Bool) (runs : List AllowedRun)
     → AreRuns image wide harts records runs → IsVerdictOver records runs verdict → AreNotesBelow (limit_of verdict) notes records runs
     → IsChecked image wide harts records checked
 

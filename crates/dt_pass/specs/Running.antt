@@ -7,11 +7,11 @@ use Rattle.dt_versions.specs.History.{History}
 use Rattle.dt_writes.specs.FileRecords.{AreFileRecords}
 use Rattle.dt_verdict.specs.declared.tallies.Noted.{Noted}
 use Rattle.dt_verdict.specs.declared.verdicts.Outcome.{Outcome}
-use Rattle.dt_pass.specs.Checked.{HartRun, IsRun, AreRuns, notes_of, outcome_of}
+use Rattle.dt_pass.specs.Checked.{AllowedRun, IsRun, AreRuns, notes_of, outcome_of}
 
 -- what came of all records of a hart
 pub record IsRunOf (held : History) (wide : Bool) (hart : ℕ) (records : List Record) (outcome : Outcome) (notes : List Noted) : Type 0 where
-  pub run : HartRun
+  pub run : AllowedRun
   pub hart_is : run.hart ≡ hart
   pub is_run : IsRun held.image wide records run
   pub outcome_is : outcome ≡ outcome_of records run
@@ -19,7 +19,7 @@ pub record IsRunOf (held : History) (wide : Bool) (hart : ℕ) (records : List R
 
 -- what came of the records of the first harts
 pub record AreRunsOf (held : History) (wide : Bool) (harts : ℕ) (records : List Record) (outcomes : List Outcome) (notes : List Noted) : Type 0 where
-  pub runs : List HartRun
+  pub runs : List AllowedRun
   pub are_runs : AreRuns held.image wide harts records runs
   pub outcomes_are : outcomes ≡ map (outcome_of records) runs
   pub notes_are : notes ≡ flat_map (notes_of records) runs

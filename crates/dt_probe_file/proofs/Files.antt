@@ -1,5 +1,6 @@
 -- The bytes of a probe file and the answers of one are the same bytes.
 use Rattle.std.proofs.Common.{◌≡◌, ℕ, ◌+◌, ◌≤◌, Bool, true, false, cond, List, [], ◌∷◌, ◌++◌, length, map, filter, refl, sym, ap, ◌∙◌, append_assoc, arith}
+use Rattle.dt_record.proofs.CountedWrites.{length-cond, length-writing}
 use Rattle.dt_record.specs.declared.records.Record.{Record}
 use Rattle.dt_record.specs.declared.streams.Next.{Next}
 use Rattle.dt_record.specs.declared.streams.Next.TheVariants.{Header, Event, End}
@@ -20,17 +21,10 @@ record AreWithin (s : Reading) (records : List Record) (bytes : List ℕ) (count
   few_records : s.events + length records ≤ 4_194_304
   few_writes : s.writes + length (filter writes_memory records) ≤ 1_048_576
 
-filter_cases : (r : Record) (others : List Record) (t : Bool) → length (cond t (r ∷ others) others) ≡ cond t 1 0 + length others
-filter_cases r others true = omega arith
-filter_cases r others false = omega arith
-
-filter_length : (r : Record) (records : List Record) → length (filter writes_memory (r ∷ records)) ≡ cond (writes_memory r) 1 0 + length (filter writes_memory records)
-filter_length r records = filter_cases r (filter writes_memory records) (writes_memory r)
-
 gives : (s : Reading) (records : List Record) (bytes : List ℕ) (count : ℕ) → AreWithin s records bytes count → AreAnswersAfter s bytes (file_answers records count)
 gives s [] bytes count h = (refl, (let e = h.count_is in omega arith), h.spelled ∙ ap end_bytes (let e = h.count_is in omega arith))
 gives s (r ∷ records) bytes count h =
-    let writes = filter_length r records in
+    let writes = length-writing r records in
     let writes_are = h.few_writes in
     let records_are = h.few_records in
     let count_is = h.count_is in
@@ -56,7 +50,7 @@ given s (r ∷ records) bytes count few_records few_writes a =
     let room_records = a.2.few_records in
     let room_writes = a.2.few_writes in
     let more = given (after_record s r) records a.0 count (omega arith) room_writes a.3 in
-    let writes = filter_length r records in
+    let writes = length-writing r records in
     let writes_are = more.few_writes in
     let records_are = more.few_records in
     let count_is = more.count_is in

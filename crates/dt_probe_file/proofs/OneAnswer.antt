@@ -1,6 +1,7 @@
 -- The answers that bytes give are one list.
 use Rattle.std.proofs.Common.{◌≡◌, ℕ, inl, inr, Bool, List, [], ◌∷◌, ◌++◌, length, Some, None, sym, ap, ◌∙◌, subst, arith}
 use Rattle.std.proofs.lemmas.List.{length-append, append-nil}
+use Rattle.dt_record_bytes.proofs.Answering.{some_is_one}
 use Rattle.dt_record.specs.declared.records.Record.{Record}
 use Rattle.dt_record.specs.declared.records.Body.{Body}
 use Rattle.dt_record.specs.declared.records.Body.TheVariants.{Commit, Trap, Regs, Csrs, Load, Store, Atomic, Drain, Refill, Beat}
@@ -114,9 +115,6 @@ after_is_one s bytes (x ∷ more) [] a b = absurd b
 after_is_one s bytes (x ∷ more) (Header harts wide ∷ others) a b = absurd b
 after_is_one s bytes (x ∷ more) (ReadFault ∷ others) a b = absurd b
 after_is_one s bytes (x ∷ more) (OutOfMemory ∷ others) a b = absurd b
-
-some_is_one : (m n : ℕ) → Some m ≡ Some n → m ≡ n
-some_is_one m n e = cc
 
 opened_is_sound : (bytes : List ℕ) (v : Version) (harts : ℕ) (wide : Bool) (more : List Next) → AreOpened bytes v harts wide more → header_fault bytes ≡ None
 opened_is_sound bytes v harts wide more a = ap header_fault a.spelled ∙ header_holds v harts wide a.rest a.some_hart a.few_harts

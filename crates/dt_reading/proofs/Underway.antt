@@ -2,6 +2,7 @@
 use Rattle.std.proofs.Common.{◌≡◌, ◌∙◌, ◌<◌, ◌≤◌, ◌+◌, ◌==◌, ◌≢◌, ℕ, Bool, true, false, List, [], ◌∷◌, ◌++◌, Option, Some, None, IsSome, IsSomeAnd, IfSome, length, cond, map, filter, refl, sym, ap, subst, append_assoc, arith}
 use Rattle.std.proofs.lemmas.List.{length-append, map-append}
 use Rattle.std.proofs.lemmas.List.Elements.{filter-append}
+use Rattle.dt_lists.proofs.Lists.{some_and}
 use Rattle.dt_record.specs.declared.records.Record.{Record}
 use Rattle.dt_record.specs.declared.streams.Next.{Next}
 use Rattle.dt_record.specs.declared.streams.Next.TheVariants.{Header, Event, End, Malformed, Limit, ReadFault, OutOfMemory}
@@ -16,10 +17,6 @@ use Rattle.dt_reading.specs.Underway.{HasGiven, HaveBegun, IsBehindHeader, IsOpe
 pub told_map : (told : Option (List Next)) (P Q : List Next → Type 0) → IfSome told P → ((answers : List Next) → P answers → Q answers) → IfSome told Q
 told_map None P Q h go = tt
 told_map (Some answers) P Q h go = go answers h
-
-pub some_and : {A : Type 0} (o : Option A) (P : A → Type 0) → IsSomeAnd o P → (x : A) × (o ≡ Some x) × P x
-some_and None P h = absurd h
-some_and (Some x) P h = (x, refl, h)
 
 some : {A : Type 0} (o : Option A) → IsSome o → (x : A) × (o ≡ Some x)
 some None h = absurd (cc)

@@ -80,7 +80,7 @@ one_store line s seen =
     alike true = refl
     alike false = refl
 
-one_fence : (n : ℕ) (b : Bool) → raised n b ≡ n + raised 0 b
+pub one_fence : (n : ℕ) (b : Bool) → raised n b ≡ n + raised 0 b
 one_fence n true = refl
 one_fence n false = omega arith
 

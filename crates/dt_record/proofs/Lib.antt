@@ -3,6 +3,9 @@ pub mod Holding
 pub mod KeyLaws
 pub mod Passing
 pub mod Undoing
-mod Placed
+pub mod Placed
 mod Waiting
 mod Words
+pub mod CountedWrites
+pub mod Inserting
+pub mod KeyChains

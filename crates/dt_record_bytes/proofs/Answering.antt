@@ -47,7 +47,7 @@ spelled_of_fields bytes r w rest h unbroken = record {
 pub length_of_spelling : (r : Record) → FitsRecord r → wide_length (tag_number r.body) ≡ Some (length (wide_bytes r))
 length_of_spelling r fits = wide_length_is r (wrote_byte_of r.body) fits ∙ ap (λ (z : List ℕ). Some (length z)) (same_bytes r)
 
-some_is_one : (m n : ℕ) → Some m ≡ Some n → m ≡ n
+pub some_is_one : (m n : ℕ) → Some m ≡ Some n → m ≡ n
 some_is_one m n e = cc
 
 pub answer_of_spelled : (bytes : List ℕ) (r : Record) (rest : List ℕ) → IsSpelled bytes r rest → IsWideAnswer bytes (Got r (length (wide_bytes r)))

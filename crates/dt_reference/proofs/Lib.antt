@@ -1,2 +1,2 @@
 mod GoingOn
-mod Retiring
+pub mod Retiring

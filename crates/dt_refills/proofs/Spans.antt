@@ -1,17 +1,13 @@
 use Rattle.std.proofs.Common.{ℕ, ◌≡◌, ◌+◌, ◌<◌, ◌≤◌, ◌||◌, Bool, true, false, zero, suc, refl, ap, subst, ◌∙◌, inl, inr, arith}
 use Rattle.std.specs.List.{list_any, range_with_len}
-use Rattle.std.proofs.lemmas.Bool.{cases_lt}
+use Rattle.std.proofs.lemmas.Bool.{cases_lt, or_right}
 
 -- Tests of the numbers from one on.
-
-or_true : (a b : Bool) → b ≡ true → (a || b) ≡ true
-or_true true b is = refl
-or_true false b is = is
 
 pub some_passes : (p : ℕ → Bool) (a n k : ℕ) → a ≤ k → k < a + n → p k ≡ true → list_any p (range_with_len a n) ≡ true
 some_passes p a zero k from to passes = absurd (omega arith)
 some_passes p a (suc n) k from to passes = elim (cases_lt a k) [
-  | inl later ↦ or_true (p a) (list_any p (range_with_len (a + 1) n)) (some_passes p (a + 1) n k (omega arith) (omega arith) passes)
+  | inl later ↦ or_right (p a) (list_any p (range_with_len (a + 1) n)) (some_passes p (a + 1) n k (omega arith) (omega arith) passes)
   | inr here ↦ let same : k ≡ a = omega arith in rw (subst (λ j. p j ≡ true) same passes) refl
 ]
 

@@ -2,6 +2,7 @@
 use Rattle.std.proofs.Common.{ℕ, ◌≡◌, ◌+◌, ◌*◌, ◌/◌, ◌%◌, ◌<◌, ◌≤◌, ◌==◌, zero, suc, IsTrue, List, ◌∷◌, map, refl, ap, ◌∙◌, arith}
 use Rattle.std.specs.List.{range_with_len}
 use Rattle.std.proofs.lemmas.Bool.{and_parts, eqb-true}
+use Rattle.dt_versions.proofs.Steady.{IsSteady-later}
 use Rattle.dt_record.specs.declared.writes.Write.{Write}
 use Rattle.dt_record.specs.Lawful.{is_ram_line}
 use Rattle.dt_record.specs.Memory.{memory_at}
@@ -13,9 +14,6 @@ map_range-same f g a zero same = refl
 map_range-same f g a (suc n) same =
     ap (λ x. x ∷ map f (range_with_len (a + 1) n)) (same a (omega arith) (omega arith))
     ∙ ap (λ xs. g a ∷ xs) (map_range-same f g (a + 1) n (λ i from to. same i (omega arith) (omega arith)))
-
-pub IsSteady-later : (writes : List Write) (addr from later k : ℕ) → from ≤ later → IsSteady writes addr from k → IsSteady writes addr later k
-IsSteady-later writes addr from later k rises is = record { none = λ byte j d in_word after before. is.none byte j d in_word (omega arith) before }
 
 pub line_at-steady : SteadyBytesStay → (image : List ℕ) (writes : List Write) (line from j k : ℕ) → IsTrue (is_ram_line line)
     → ((i : ℕ) → i < 8 → IsSteady writes (line + 8 * i) from k) → from ≤ j → j ≤ k → line_at image writes k line ≡ line_at image writes j line

@@ -2,6 +2,7 @@
 use Rattle.std.proofs.Common.{ℕ, ◌≡◌, Bool, Option, Some, None, option_map, List, [], ◌++◌, length, refl, sym, ap, ◌∙◌, subst, arith, Err}
 use Rattle.std.specs.List.{slice_get}
 use Rattle.std.proofs.lemmas.List.{append-nil}
+use Rattle.dt_lists.proofs.Lists.{slice_get-append_left}
 use Rattle.dt_record.specs.declared.records.Record.{Record}
 use Rattle.dt_record.specs.declared.writes.Write.{Write}
 use Rattle.dt_record.specs.Keys.{key_of}
@@ -12,7 +13,6 @@ use Rattle.dt_runs.specs.Noting.{failure_at}
 use Rattle.dt_runs.specs.RunView.{RunView}
 use Rattle.dt_runs.specs.Runs.{EndsWith, Runs}
 use Rattle.dt_runs.proofs.Longer.{allowed_longer, notes_longer, setting_longer}
-use Rattle.dt_runs.proofs.Places.{at_left}
 
 ended : (v : RunView) (image : List ℕ) (writes : List Write) (wide : Bool) (records more : List Record) (run : Runs v image writes wide records) (failure : Option Failure) → v.failure ≡ failure
     → (failure ≡ None → more ≡ []) → EndsWith v.hart image writes wide records run.moments (length run.allowed) failure → ComesTo v image writes wide (records ++ more)
@@ -32,7 +32,7 @@ ended v image writes wide records more run None is over at =
 ended v image writes wide records more run (Some f) is over both =
     let at = both.0 in
     let hart = v.hart.arch.hart in
-    let here : slice_get (records ++ more) (length run.allowed) ≡ Some at.own = at_left records more (length run.allowed) (omega (arith, at.last)) ∙ at.there in
+    let here : slice_get (records ++ more) (length run.allowed) ≡ Some at.own = slice_get-append_left records more (length run.allowed) (omega (arith, at.last)) ∙ at.there in
     record {
       allowed = run.allowed;
       refused = Some at.misfit;

@@ -4,6 +4,7 @@ use Rattle.std.specs.List.{slice_get}
 use Rattle.std.proofs.lemmas.Bool.{cond-false, ne_eqb}
 use Rattle.std.proofs.lemmas.List.{append_assoc, drop-append-le, length-append, length-drop, take_all, take_at}
 use Rattle.std.proofs.lemmas.Option.{slice_get_within}
+use Rattle.dt_lists.proofs.Lists.{slice_get-append_left, slice_get-append_seam, slice_get-push}
 use Rattle.dt_record.specs.declared.accesses.LoadAsk.{LoadAsk}
 use Rattle.dt_record.specs.declared.records.Record.{Record}
 use Rattle.dt_record.specs.declared.writes.Write.{Write}
@@ -18,7 +19,7 @@ use Rattle.dt_record.specs.LoadSources.{AreLeastSources}
 use Rattle.dt_sources.specs.Choice.{with_moment}
 use Rattle.dt_hart.specs.HartView.{HartView}
 use Rattle.dt_hart.specs.Settings.{Setting, did, moments_after}
-use Rattle.dt_hart.specs.Standing.{StandsFor}
+use Rattle.dt_hart.specs.Standing.{HartStands}
 use Rattle.dt_judge.specs.Judgement.{Finds}
 use Rattle.dt_judge.specs.Judging.{Meets}
 use Rattle.dt_judge.specs.Laws.{AgreeAtLoads, EarlierMomentsDecide}
@@ -30,7 +31,7 @@ use Rattle.dt_runs.specs.RunView.{RunView}
 use Rattle.dt_runs.specs.Runs.{AreOwn, EndsWith, HoldsUntil, LastFails, RunsOn, setting_after}
 use Rattle.dt_runs.specs.Stepping.{Allows, IsStep, Refuses}
 use Rattle.dt_runs.proofs.Longer.{allowed_longer, earlier_action, notes_longer, notes_push, setting_longer}
-use Rattle.dt_runs.proofs.Places.{all_front, at_left, at_push, at_seam}
+use Rattle.dt_runs.proofs.Places.{all_front}
 
 -- ---- moments
 
@@ -50,7 +51,7 @@ next_agrees s (Some (Loaded load)) k place ask there = with_other s.moments (len
 
 meets : (held : History) (writes : List Write) (wide : Bool) (before more : List Record) (h : HartView) (r : Record) (moments : ℕ → ℕ)
     → AreOwn writes h.arch.hart (before ++ r ∷ more) → HoldsUntil held.writes r.stamp writes
-    → StandsFor h (setting_after held.image writes wide h.arch.hart before moments) → Meets h held (setting_after held.image writes wide h.arch.hart before moments) r
+    → HartStands h (setting_after held.image writes wide h.arch.hart before moments) → Meets h held (setting_after held.image writes wide h.arch.hart before moments) r
 meets held writes wide before more h r moments own until stands = record {
   stands = stands;
   goes_on = record { more = more; its = own.its; rising = own.rising; in_order = own.in_order; own = own.same };
@@ -77,20 +78,20 @@ allowed_push decide image writes wide hart before r moments next allowed p count
       subst (λ rs. AreLeastSources image writes (actions_of rs) next)
       (sym (take_all (length (allowed ++ p ∷ [])) (before ++ r ∷ []) (omega (arith, count, length-append allowed (p ∷ []), length-append before (r ∷ [])))))
       chosen;
-  each = λ n q there. elim (at_push allowed p n q there) [
+  each = λ n q there. elim (slice_get-push allowed p n q there) [
     | inl earlier ↦
         let at = are.each n q earlier in
         let within = slice_get_within allowed n q earlier in
         let same = λ (place : ℕ) (ask : LoadAsk) (here : slice_get (actions_of (take n before)) place ≡ Some (Loaded ask)).
         agree place ask (earlier_action before n place (Loaded ask) here) in (
           at.0,
-          at_left before (r ∷ []) n (omega arith) ∙ at.1,
+          slice_get-append_left before (r ∷ []) n (omega arith) ∙ at.1,
           subst (λ s. Finds s at.0 (Ok q)) (setting_longer image writes wide hart before (r ∷ []) next n (omega arith))
               (decide (setting_at image writes wide hart before moments n) next at.0 (Ok q) same at.2),
         )
     | inr now ↦ (
       r,
-      ap (slice_get (before ++ r ∷ [])) (now.0 ∙ count) ∙ at_seam before r [],
+      ap (slice_get (before ++ r ∷ [])) (now.0 ∙ count) ∙ slice_get-append_seam before r [],
       subst (λ s. Finds s r (Ok q)) (setting_there image writes wide hart before (r ∷ []) next n (now.0 ∙ count))
           (decide (setting_after image writes wide hart before moments) next r (Ok q) agree (subst (λ z. Finds (setting_after image writes wide hart before moments) r (Ok z)) now.1 finds)),
     )
@@ -139,7 +140,7 @@ on_allowed decide old new held r p none still allows noted writes wide earlier b
           subst (λ rs. EndsWith new.hart held.image writes wide rs next (length (run.allowed ++ p ∷ [])) new.failure) joined
           (subst (EndsWith new.hart held.image writes wide (all ++ r ∷ []) next (length (run.allowed ++ p ∷ []))) (sym still) (
             omega (arith, at.0, length-append run.allowed (p ∷ []), length-append all (r ∷ [])),
-            subst (λ h. StandsFor new.hart (setting_after held.image writes wide h (all ++ r ∷ []) next)) number gone.1,
+            subst (λ h. HartStands new.hart (setting_after held.image writes wide h (all ++ r ∷ []) next)) number gone.1,
           ));
       notes = notes_behind earlier before run.allowed r p old.notes new.notes old.hart.seq at.0 (omega (arith, at.0, at.1.seq)) run.notes noted;
     }
@@ -158,7 +159,7 @@ on_refused old new held r m f none fails refuses is noted writes wide earlier be
     let last : LastFails held.image writes wide hart (all ++ r ∷ []) run.moments (length run.allowed) f = record {
       misfit = m;
       own = r;
-      there = ap (slice_get (all ++ r ∷ [])) at.0 ∙ at_seam all r [];
+      there = ap (slice_get (all ++ r ∷ [])) at.0 ∙ slice_get-append_seam all r [];
       last = omega (arith, at.0, length-append all (r ∷ []));
       finds = subst (λ z. Finds z r (Err m)) (setting_there held.image writes wide hart all (r ∷ []) run.moments (length run.allowed) at.0) finds;
       failure = is ∙ ap (λ n. failure_at (key_of n r) m) (omega (arith, at.0, at.1.seq));
@@ -166,11 +167,11 @@ on_refused old new held r m f none fails refuses is noted writes wide earlier be
     let at_count = setting_there held.image writes wide hart all (r ∷ []) run.moments (length run.allowed) at.0 in
     let Ends : HartView → Type 0 = λ h.
     LastFails held.image writes wide h.arch.hart (all ++ r ∷ []) run.moments (length run.allowed) f
-    × StandsFor h (setting_at held.image writes wide h.arch.hart (all ++ r ∷ []) run.moments (length run.allowed)) in
+    × HartStands h (setting_at held.image writes wide h.arch.hart (all ++ r ∷ []) run.moments (length run.allowed)) in
     let joined : all ++ r ∷ [] ≡ earlier ++ (before ++ r ∷ []) = append_assoc earlier before (r ∷ []) in
     let behind = drop (length earlier) run.allowed in
     let few : length behind ≤ length before = omega (arith, at.0, length-append earlier before, length-drop (length earlier) run.allowed) in
-    let ends : Ends old.hart = (last, subst (λ s. StandsFor old.hart s) at_count at.1) in
+    let ends : Ends old.hart = (last, subst (λ s. HartStands old.hart s) at_count at.1) in
     record {
       allowed = run.allowed;
       moments = run.moments;

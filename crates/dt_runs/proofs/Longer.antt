@@ -4,6 +4,7 @@ use Rattle.std.specs.List.{slice_get}
 use Rattle.std.specs.Option.{option_to_list}
 use Rattle.std.proofs.lemmas.List.{append-nil, append_assoc, take-append-drop, take-append-le}
 use Rattle.std.proofs.lemmas.Option.{slice_get_within}
+use Rattle.dt_lists.proofs.Lists.{slice_get-append_left}
 use Rattle.dt_record.specs.declared.records.Record.{Record}
 use Rattle.dt_record.specs.declared.writes.Write.{Write}
 use Rattle.dt_record.specs.Actions.{Action}
@@ -16,7 +17,6 @@ use Rattle.dt_judge.specs.Runs.{AreAllowed, setting_at}
 use Rattle.dt_verdict.specs.declared.tallies.Noted.{Noted}
 use Rattle.dt_runs.specs.Noting.{note_of, notes_from}
 use Rattle.dt_runs.specs.Runs.{setting_after}
-use Rattle.dt_runs.proofs.Places.{at_left}
 
 -- ---- actions
 
@@ -34,7 +34,7 @@ earlier_action records n place a there =
     let rest = drop n records in
     ap (λ rs. slice_get (actions_of rs) place) (sym (take-append-drop n records))
     ∙ ap (λ (actions : List Action). slice_get actions place) (actions_from-append 0 first rest)
-    ∙ at_left (actions_of first) (actions_from (0 + length first) rest) place (slice_get_within (actions_of first) place a there)
+    ∙ slice_get-append_left (actions_of first) (actions_from (0 + length first) rest) place (slice_get_within (actions_of first) place a there)
     ∙ there
 
 -- ---- settings and allowed records
@@ -51,7 +51,7 @@ allowed_longer image writes wide hart records more moments allowed few are = rec
   each = λ n p there.
       let at = are.each n p there in
       let within = slice_get_within allowed n p there in
-      (at.0, at_left records more n (omega arith) ∙ at.1, subst (λ s. Finds s at.0 (Ok p)) (setting_longer image writes wide hart records more moments n (omega arith)) at.2);
+      (at.0, slice_get-append_left records more n (omega arith) ∙ at.1, subst (λ s. Finds s at.0 (Ok p)) (setting_longer image writes wide hart records more moments n (omega arith)) at.2);
 }
 
 -- ---- notes

@@ -11,7 +11,7 @@ use Rattle.dt_rules.specs.declared.misfits.Passed.{Passed}
 use Rattle.dt_hart.specs.HartView.{HartView}
 use Rattle.dt_hart.specs.OwnWrites.{are_of, are_rising}
 use Rattle.dt_hart.specs.Settings.{Setting}
-use Rattle.dt_hart.specs.Standing.{StandsFor}
+use Rattle.dt_hart.specs.Standing.{HartStands}
 use Rattle.dt_judge.specs.Judgement.{Finds}
 use Rattle.dt_judge.specs.Judging.{are_later}
 use Rattle.dt_judge.specs.Runs.{AreAllowed, setting_at}
@@ -64,10 +64,10 @@ pub record LastFails (image : List ℕ) (writes : List Write) (wide : Bool) (har
 abbrev pub EndsWith : (h : HartView) (image : List ℕ) (writes : List Write) (wide : Bool) (records : List Record)
     (moments : ℕ → ℕ) (count : ℕ) → Option Failure → Type 0
 EndsWith h image writes wide records moments count None =
-    (count ≡ length records) × StandsFor h (setting_after image writes wide h.arch.hart records moments)
+    (count ≡ length records) × HartStands h (setting_after image writes wide h.arch.hart records moments)
 EndsWith h image writes wide records moments count (Some f) =
     LastFails image writes wide h.arch.hart records moments count f
-    × StandsFor h (setting_at image writes wide h.arch.hart records moments count)
+    × HartStands h (setting_at image writes wide h.arch.hart records moments count)
 
 -- A run over these records of its hart behind earlier ones, with this image and these writes: they are allowed up to the
 -- end, or up to the last one, which is the failure. What a report says of the allowed ones behind the earlier is noted.

@@ -7,7 +7,7 @@ use Rattle.dt_rules.specs.declared.misfits.Misfit.{Misfit}
 use Rattle.dt_rules.specs.declared.misfits.Passed.{Passed}
 use Rattle.dt_hart.specs.HartView.{HartView}
 use Rattle.dt_hart.specs.Settings.{Setting, after}
-use Rattle.dt_hart.specs.Standing.{StandsFor}
+use Rattle.dt_hart.specs.Standing.{HartStands}
 use Rattle.dt_judge.specs.Judgement.{Finds}
 use Rattle.dt_judge.specs.Judging.{Meets}
 use Rattle.dt_verdict.specs.declared.tallies.Noted.{Noted}
@@ -17,7 +17,7 @@ use Rattle.dt_runs.specs.Noting.{failure_at, note_of}
 -- the record is allowed, and the hart goes on
 pub record Allows (old new : HartView) (held : History) (r : Record) (p : Passed) : Type 0 where
   pub finds : (s : Setting) → Meets old held s r → Finds s r (Ok p)
-  pub goes_on : (s : Setting) → Meets old held s r → (moment : ℕ) × StandsFor new (after s r moment)
+  pub goes_on : (s : Setting) → Meets old held s r → (moment : ℕ) × HartStands new (after s r moment)
   pub hart : new.arch.hart ≡ old.arch.hart
   pub counted : new.seq ≡ old.seq + 1
   pub stamp : new.stamp ≡ r.stamp

@@ -5,6 +5,8 @@ use Rattle.std.proofs.lemmas.List.{append_assoc, append-nil}
 use Rattle.std.proofs.lemmas.List.Elements.{All-contains, All-contains_itself, All-weaker, Contains-append_right, filter-append, filter_map-append}
 use Rattle.std.proofs.lemmas.List.Sums.{AllPass-from_list_all, list_all-from_AllPass}
 use mathlib.Core.List.{IsPrefix}
+use Rattle.dt_core.proofs.Insertion.{filter-by_key}
+use Rattle.dt_lists.proofs.Lists.{filter-none}
 use Rattle.dt_record.specs.declared.keys.Key.{Key}
 use Rattle.dt_record.specs.declared.records.Record.{Record}
 use Rattle.dt_record.specs.declared.writes.Note.{Note}
@@ -24,8 +26,8 @@ use Rattle.dt_core.specs.Notes.{write_in, announced}
 use Rattle.dt_core.proofs.Announced.{StandsAt, StandsAt-end, HasMark-all}
 use Rattle.dt_settled.specs.AllWrites.{IsMade, AreOrderly, FrontsTellAllWrites, AllWritesArePromised, FileWritesMayBeAll, OrderlyWritesMayBeAll}
 use Rattle.dt_settled.specs.Settling.{TellBelow}
-use Rattle.dt_settled.proofs.Insertion.{list_all-by_key, filter-by_key}
-use Rattle.dt_settled.proofs.Orders.{is_early, usable-early, filter-none, list_all-parts}
+use Rattle.dt_settled.proofs.Insertion.{list_all-by_key}
+use Rattle.dt_settled.proofs.Orders.{is_early, usable-early, list_all-parts}
 use Rattle.dt_settled.proofs.SoundNotes.{apart_front, SoundNotesAreApart-all}
 
 -- Which lists may be that of all writes.

@@ -9,6 +9,8 @@ use Rattle.std.specs.Ordering.{is_eq, is_lt, is_gt, match_ordering}
 use Rattle.std.proofs.lemmas.Bool.{and_parts, and_from, or_from, or_left, or_right, both_ways}
 use Rattle.std.proofs.lemmas.Bool.Decides.{nat_tests}
 use Rattle.std.proofs.lemmas.Map.Keys.{sorted_head, sorted_tail}
+use Rattle.dt_writes.proofs.KeyOrder.{cmp-below}
+use Rattle.dt_record.proofs.Inserting.{insert-first, insert-later}
 use Rattle.dt_record.specs.declared.keys.Key.{Key}
 use Rattle.dt_record.specs.declared.writes.Write.{Write}
 use Rattle.dt_record.specs.Keys.{key_below}
@@ -18,7 +20,6 @@ use Rattle.dt_record.specs.contracts.keys.KeyOrd.TheImpl.{ghosts}
 use Rattle.dt_versions.specs.History.{are_in_order}
 use Rattle.dt_writes.specs.Apart.{keys_differ}
 use Rattle.dt_settled.specs.Waiting.{AreKeyed}
-use Rattle.dt_settled.proofs.Insertion.{insert-first, insert-later}
 
 -- A map from keys to writes, in which each write stands under its key.
 
@@ -26,9 +27,6 @@ abbrev pub write_key : Write → Key
 write_key w = w.key
 
 -- the order that `Key` derives is that of the definition
-
-cmp-below : (a b : Key) → is_lt (ghosts.cmp a b) ≡ key_below a b
-cmp-below a b = grind (arith, nat_tests)
 
 cmp-above : (a b : Key) → is_gt (ghosts.cmp a b) ≡ key_below b a
 cmp-above a b = grind (arith, nat_tests)

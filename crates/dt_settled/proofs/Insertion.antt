@@ -1,6 +1,8 @@
 use Rattle.std.proofs.Common.{◌≡◌, ◌&&◌, Bool, true, false, not, cond, List, [], ◌∷◌, ◌++◌, filter, refl, sym, ap, ◌∙◌, inl, inr}
 use Rattle.std.specs.List.{list_all}
 use Rattle.std.proofs.lemmas.Bool.{and_parts, and_from, cases_Bool, cond-true, cond-false, not-true, not_from_false, both_ways, or_cases}
+use Rattle.dt_record.proofs.Inserting.{insert-first, insert-later}
+use Rattle.dt_lists.proofs.Lists.{list_all-weaker, list_all-filter}
 use Rattle.dt_record.specs.declared.keys.Key.{Key}
 use Rattle.dt_record.specs.declared.writes.Write.{Write}
 use Rattle.dt_record.specs.Keys.{key_below}
@@ -9,15 +11,8 @@ use Rattle.dt_record.specs.Writes.{insert_write, by_key}
 use Rattle.dt_versions.specs.History.{are_in_order}
 use Rattle.dt_writes.specs.Apart.{keys_differ}
 use Rattle.dt_writes.specs.KeyOrder.{keys_rise}
-use Rattle.dt_settled.proofs.Orders.{list_all-weaker, list_all-filter}
 
 -- Writes that are put among others in the order of keys.
-
-pub insert-first : (w v : Write) (vs : List Write) → key_below w.key v.key ≡ true → insert_write w (v ∷ vs) ≡ w ∷ v ∷ vs
-insert-first w v vs below = cond-true (key_below w.key v.key) (w ∷ v ∷ vs) (v ∷ insert_write w vs) below
-
-pub insert-later : (w v : Write) (vs : List Write) → key_below w.key v.key ≡ false → insert_write w (v ∷ vs) ≡ v ∷ insert_write w vs
-insert-later w v vs above = cond-false (key_below w.key v.key) (w ∷ v ∷ vs) (v ∷ insert_write w vs) above
 
 -- a test of each write
 
@@ -159,15 +154,6 @@ filter-insert p w (v ∷ vs) rise = elim (cases_Bool (key_below w.key v.key)) [
     turn true false us later = refl
     turn false true us later = refl
     turn false false us later = refl
-
-pub filter-by_key : (p : Write → Bool) (ws : List Write) → filter p (by_key ws) ≡ by_key (filter p ws)
-filter-by_key p [] = refl
-filter-by_key p (w ∷ ws) =
-    filter-insert p w (by_key ws) (by_key-rising ws) ∙ ap (λ xs. cond (p w) (insert_write w xs) xs) (filter-by_key p ws) ∙ whole (p w)
-  where
-    whole : (b : Bool) → cond b (insert_write w (by_key (filter p ws))) (by_key (filter p ws)) ≡ by_key (cond b (w ∷ filter p ws) (filter p ws))
-    whole true = refl
-    whole false = refl
 
 -- where the first writes are the first of all in order, the others are the rest of them
 

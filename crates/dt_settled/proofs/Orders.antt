@@ -4,6 +4,7 @@ use Rattle.std.proofs.lemmas.Bool.{and_parts, and_from, cases_Bool, cond-true, c
 use Rattle.std.proofs.lemmas.List.Elements.{All-filter}
 use Rattle.std.proofs.lemmas.List.Folds.{list_all-append}
 use Rattle.std.proofs.lemmas.List.Sums.{AllPass-from_list_all, list_all-from_AllPass}
+use Rattle.dt_lists.proofs.Lists.{filter-all, filter-none, filter-kept, filter-dropped, list_all-weaker, list_all-filter}
 use Rattle.dt_record.specs.declared.keys.Key.{Key}
 use Rattle.dt_record.specs.declared.writes.Write.{Write}
 use Rattle.dt_record.specs.Keys.{key_below}
@@ -15,34 +16,6 @@ use Rattle.dt_core.specs.Marks.{is_below}
 use Rattle.dt_settled.specs.Settling.{first_below}
 
 -- Writes in the order of their keys: their fronts, and those below a mark.
-
-pub filter-kept : {X : Type 0} (p : X → Bool) (x : X) (xs : List X) → p x ≡ true → filter p (x ∷ xs) ≡ x ∷ filter p xs
-filter-kept p x xs passes = cond-true (p x) (x ∷ filter p xs) (filter p xs) passes
-
-pub filter-dropped : {X : Type 0} (p : X → Bool) (x : X) (xs : List X) → p x ≡ false → filter p (x ∷ xs) ≡ filter p xs
-filter-dropped p x xs fails = cond-false (p x) (x ∷ filter p xs) (filter p xs) fails
-
-pub filter-none : {X : Type 0} (p : X → Bool) (xs : List X) → list_all (λ x. not (p x)) xs ≡ true → filter p xs ≡ []
-filter-none p [] none = refl
-filter-none p (x ∷ xs) none =
-    let parts = and_parts (not (p x)) (list_all (λ y. not (p y)) xs) none in
-    filter-dropped p x xs (not-true (p x) parts.0) ∙ filter-none p xs parts.1
-
-pub filter-all : {X : Type 0} (p : X → Bool) (xs : List X) → list_all p xs ≡ true → filter p xs ≡ xs
-filter-all p [] all = refl
-filter-all p (x ∷ xs) all =
-    let parts = and_parts (p x) (list_all p xs) all in
-    filter-kept p x xs parts.0 ∙ ap (λ ys. x ∷ ys) (filter-all p xs parts.1)
-
-pub list_all-weaker : {X : Type 0} (p q : X → Bool) (xs : List X) → ((x : X) → p x ≡ true → q x ≡ true) → list_all p xs ≡ true → list_all q xs ≡ true
-list_all-weaker p q [] weaker all = refl
-list_all-weaker p q (x ∷ xs) weaker all =
-    let parts = and_parts (p x) (list_all p xs) all in
-    and_from (q x) (list_all q xs) (weaker x parts.0) (list_all-weaker p q xs weaker parts.1)
-
--- what passes of a whole passes of what is left of it, and of its two parts
-pub list_all-filter : {X : Type 0} (p q : X → Bool) (xs : List X) → list_all p xs ≡ true → list_all p (filter q xs) ≡ true
-list_all-filter p q xs all = list_all-from_AllPass p (filter q xs) (All-filter q (λ x. p x ≡ true) xs (AllPass-from_list_all p xs all))
 
 pub list_all-parts : {X : Type 0} (p : X → Bool) (xs ys : List X) → list_all p (xs ++ ys) ≡ true → (list_all p xs ≡ true) × (list_all p ys ≡ true)
 list_all-parts p xs ys all = and_parts (list_all p xs) (list_all p ys) (sym (list_all-append p xs ys) ∙ all)

@@ -3,6 +3,8 @@ use Rattle.std.proofs.lemmas.List.{append_assoc}
 use Rattle.std.proofs.lemmas.List.Elements.{filter-append}
 use Rattle.std.proofs.Math.Seq.{take-length}
 use mathlib.Core.List.{IsPrefix}
+use Rattle.dt_core.proofs.Insertion.{filter-by_key}
+use Rattle.dt_lists.proofs.Lists.{filter-all}
 use Rattle.dt_record.specs.declared.writes.Write.{Write}
 use Rattle.dt_record.specs.declared.writes.Note.{Note}
 use Rattle.dt_record.specs.Writes.{by_key}
@@ -11,8 +13,8 @@ use Rattle.dt_core.specs.Machine.{usable_below}
 use Rattle.dt_core.specs.Notes.{announced}
 use Rattle.dt_settled.specs.Waiting.{waiting_after}
 use Rattle.dt_settled.specs.Settling.{SettledView, first_below, AreTold, Stands, Continues, ArePromised, Settles, StaysTrue, Moves}
-use Rattle.dt_settled.proofs.Orders.{is_early, usable-early, in_order-filter, in_order-behind, filter-all, early-first, early-none, IsKept-front}
-use Rattle.dt_settled.proofs.Insertion.{by_key-in_order, by_key-rest, filter-by_key}
+use Rattle.dt_settled.proofs.Orders.{is_early, usable-early, in_order-filter, in_order-behind, early-first, early-none, IsKept-front}
+use Rattle.dt_settled.proofs.Insertion.{by_key-in_order, by_key-rest}
 use Rattle.dt_settled.proofs.TakingIn.{TakesIn, TakesIn-more}
 
 -- Where the notes tell all writes below a mark, what moves are the next of all writes.

@@ -4,6 +4,8 @@ use Rattle.std.proofs.lemmas.Bool.{and_parts, and_from, cases_Bool, or_left, or_
 use Rattle.std.proofs.lemmas.Bool.Decides.{nat_tests}
 use Rattle.std.proofs.lemmas.List.{append_assoc}
 use Rattle.std.proofs.lemmas.List.Elements.{filter-append, filter_map-append}
+use Rattle.dt_record.proofs.Inserting.{insert-first, insert-later}
+use Rattle.dt_lists.proofs.Lists.{filter-kept, filter-dropped, list_all-weaker}
 use Rattle.dt_record.specs.declared.keys.Key.{Key}
 use Rattle.dt_record.specs.declared.writes.Write.{Write}
 use Rattle.dt_record.specs.Keys.{key_below}
@@ -13,8 +15,8 @@ use Rattle.dt_writes.specs.Apart.{keys_differ, are_apart}
 use Rattle.dt_writes.specs.Laws.{WritesStandInOrder}
 use Rattle.dt_core.specs.Notes.{write_in, announced, hart_writes}
 use Rattle.dt_settled.specs.Laws.{SoundNotesAreApart}
-use Rattle.dt_settled.proofs.Orders.{filter-kept, filter-dropped, list_all-weaker, list_all-parts}
-use Rattle.dt_settled.proofs.Insertion.{insert-first, insert-later, list_all-insert, list_all-by_key}
+use Rattle.dt_settled.proofs.Orders.{list_all-parts}
+use Rattle.dt_settled.proofs.Insertion.{list_all-insert, list_all-by_key}
 
 -- No two writes that sound notes announce have one key.
 

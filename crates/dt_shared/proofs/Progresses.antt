@@ -7,6 +7,7 @@ use Rattle.std.proofs.lemmas.Option.{slice_get-get_or, get_or_from_slice_get}
 use Rattle.std.proofs.Math.Seq.{drop-append_seam}
 use mathlib.Core.Logic.{dite}
 use mathlib.Core.List.{IsPrefix}
+use Rattle.std.proofs.lemmas.Bool.{or_right}
 use native.Mathlib.Decide.{ℕ_discrete, dec_le}
 use Rattle.dt_record.specs.declared.writes.Note.{Note}
 use Rattle.dt_record.specs.declared.writes.Note.TheVariants.{Wrote, Mark, End, Cut, Failure}
@@ -39,10 +40,6 @@ or_of_false : (a b : Bool) → b ≡ false → (a || b) ≡ a
 or_of_false true b e = refl
 or_of_false false b e = e
 
-or_of_true : (a b : Bool) → b ≡ true → (a || b) ≡ true
-or_of_true true b e = refl
-or_of_true false b e = e
-
 -- a note that is no Mark and no End of the hart leaves its progress
 progress_kept : (hart : ℕ) (notes : List Note) (note : Note) → stamp_in hart note ≡ None → ends hart note ≡ false → progress_of hart (notes ++ note ∷ []) ≡ progress_of hart notes
 progress_kept hart notes note unmarked goes_on =
@@ -65,7 +62,7 @@ progress_marked hart stamp notes =
     at_mark false = refl
 
 progress_ended : (hart : ℕ) (notes : List Note) → progress_of hart (notes ++ End hart ∷ []) ≡ Ended
-progress_ended hart notes = ap (λ b. if b then Ended else At (mark_of hart (notes ++ End hart ∷ []))) (any_snoc (ends hart) notes (End hart) ∙ or_of_true (has_ended hart notes) (ends hart (End hart)) (eq-eqb hart hart refl))
+progress_ended hart notes = ap (λ b. if b then Ended else At (mark_of hart (notes ++ End hart ∷ []))) (any_snoc (ends hart) notes (End hart) ∙ or_right (has_ended hart notes) (ends hart (End hart)) (eq-eqb hart hart refl))
 
 -- one hart's progress changes
 follows_set : (progress : List Progress) (notes : List Note) (note : Note) (hart : ℕ) (now : Progress) → Follows progress notes → hart < 256 → now ≡ progress_of hart (notes ++ note ∷ [])

@@ -33,5 +33,5 @@ pub record AreNumbered (id : TableId) (count : ℕ) (passes : List PassState) : 
   pub each : (n : ℕ) → n < count → slice_get passes n ≡ Some (new_pass id n)
 
 -- a seat at rest that stands for the pass with this number alone
-abbrev pub StandsFor : ℕ → Seated → Type 0
-StandsFor number me = Rests (first_known me.0.passes) me.0.made me × ((first_known me.0.passes).number ≡ number)
+abbrev pub SeatStands : ℕ → Seated → Type 0
+SeatStands number me = Rests (first_known me.0.passes) me.0.made me × ((first_known me.0.passes).number ≡ number)

@@ -15,13 +15,13 @@ pub struct Pass {
 }
 
 impl Model for Pass {
-    ghost use Rattle.dt_shared.specs.Passes.{PassState, pass_state, first_known, StandsFor};
+    ghost use Rattle.dt_shared.specs.Passes.{PassState, pass_state, first_known, SeatStands};
 
     ghost Value = { PassState };
 
     ghost view = { λ p. pass_state p.seat.table_id (first_known p.seat.me.0.passes) };
 
-    ghost invariant = { λ p. StandsFor p.number p.seat.me };
+    ghost invariant = { λ p. SeatStands p.number p.seat.me };
 }
 
 impl Pass {

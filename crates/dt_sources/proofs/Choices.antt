@@ -2,6 +2,7 @@ use Rattle.std.proofs.Common.{ℕ, ◌≡◌, ◌≢◌, ◌+◌, ◌<◌, ◌�
 use Rattle.std.specs.List.{slice_get}
 use Rattle.std.proofs.lemmas.Bool.{cases_eq, cases_lt, eq-eqb, ne_eqb, cond-true, cond-false}
 use Rattle.std.proofs.lemmas.Option.{slice_get_within}
+use Rattle.dt_lists.proofs.Lists.{slice_get-append_left, slice_get-append_seam}
 use Rattle.dt_record.specs.declared.writes.Write.{Write}
 use Rattle.dt_record.specs.declared.accesses.LoadAsk.{LoadAsk}
 use Rattle.dt_record.specs.Actions.{Action, Loaded}
@@ -11,14 +12,13 @@ use Rattle.dt_versions.specs.Laws.{SourcesRise}
 use Rattle.dt_sources.specs.Choice.{FitsThere, FitsNext, ChoosesLeast, then_action, with_moment, LeastChoiceIsLeast, RefusalIsExact, LeastChoiceGoesOn}
 use Rattle.dt_sources.proofs.Floors.{IsNoLater, fits_falls}
 use Rattle.dt_sources.proofs.Fronts.{fits_along, front_is_same, same_back, front_fits}
-use Rattle.dt_sources.proofs.Places.{slice_get-append_left, slice_get-append_seam}
 
 -- The law of the least choice.
 
 with_moment-here : (moments : ℕ → ℕ) (place k n : ℕ) → n ≡ place → with_moment moments place k n ≡ k
 with_moment-here moments place k n same = cond-true (n == place) k (moments n) (eq-eqb n place same)
 
-with_moment-elsewhere : (moments : ℕ → ℕ) (place k n : ℕ) → n ≢ place → with_moment moments place k n ≡ moments n
+pub with_moment-elsewhere : (moments : ℕ → ℕ) (place k n : ℕ) → n ≢ place → with_moment moments place k n ≡ moments n
 with_moment-elsewhere moments place k n apart = cond-false (n == place) k (moments n) (ne_eqb n place apart)
 
 -- least choices are at no load later than any fitting assignment

@@ -2,13 +2,13 @@ use Rattle.std.proofs.Common.{ℕ, ◌≡◌, ◌<◌, ◌≤◌, Option, List, 
 use Rattle.std.specs.List.{slice_get}
 use Rattle.std.proofs.lemmas.List.{take-append-le}
 use Rattle.std.proofs.lemmas.Option.{slice_get_within}
+use Rattle.dt_lists.proofs.Lists.{slice_get-append_left}
 use Rattle.dt_record.specs.declared.writes.Write.{Write}
 use Rattle.dt_record.specs.declared.accesses.LoadAsk.{LoadAsk}
 use Rattle.dt_record.specs.Actions.{Action, Loaded}
 use Rattle.dt_record.specs.LoadSources.{Rank, FitsLoad, KeepsFloor, Fits}
 use Rattle.dt_sources.specs.Choice.{FitsThere, FrontsHaveSources}
 use Rattle.dt_sources.proofs.Floors.{KeepsRead}
-use Rattle.dt_sources.proofs.Places.{slice_get-append_left}
 
 -- What a load at a place may read depends on the actions before it and their moments alone.
 

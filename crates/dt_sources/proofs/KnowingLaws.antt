@@ -4,6 +4,8 @@ use Rattle.std.proofs.lemmas.Bool.{cases_Bool, cases_lt, cond-true, false≢true
 use Rattle.std.proofs.lemmas.Bool.Decides.{nat_tests}
 use Rattle.std.proofs.lemmas.List.{take_all, take-append-le}
 use Rattle.std.proofs.lemmas.Option.{slice_get_within}
+use Rattle.dt_record.proofs.KeyChains.{below-not_above}
+use Rattle.dt_lists.proofs.Lists.{slice_get-append_left, slice_get-append_seam}
 use Rattle.dt_record.specs.declared.keys.Key.{Key}
 use Rattle.dt_record.specs.declared.writes.Write.{Write}
 use Rattle.dt_record.specs.declared.origins.Origin.{Origin}
@@ -18,7 +20,6 @@ use Rattle.dt_local.specs.LocalMemory.{newest_of, greater}
 use Rattle.dt_sources.specs.Choice.{then_action}
 use Rattle.dt_sources.specs.Knowing.{HadFrom, WroteBefore, IsKnownKey, IsGreatest, IsAddedKey, KnowingGoesOn, write_key, covering_key, NotesAreAdded}
 use Rattle.dt_sources.proofs.Choices.{earlier_load, next_action}
-use Rattle.dt_sources.proofs.Places.{slice_get-append_left, slice_get-append_seam}
 use Rattle.dt_sources.proofs.Ranks.{rank_below-itself, not_below_image, not_below-chain}
 
 -- How local memory goes on knowing.
@@ -53,9 +54,6 @@ if_some_weaker : (P Q : Key → Type 0) (o : Option Key) → ((key : Key) → P 
 if_some_weaker P Q None weaker holds = tt
 if_some_weaker P Q (Some key) weaker holds = weaker key holds
 
-key_below-not_above : (a b c : Key) → KeyBelow a b → key_below c b ≡ false → KeyBelow a c
-key_below-not_above a b c below above = grind (arith, nat_tests)
-
 wrote_earlier : (writes : List Write) (next after : Key) (byte : ℕ) (key : Key) → next.hart ≡ after.hart → WroteBefore writes after byte key → KeyBelow key next → WroteBefore writes next byte key
 wrote_earlier writes next after byte key hart wrote before = record {
   write = wrote.write;
@@ -72,7 +70,7 @@ wrote_later writes next after byte key hart rises wrote = record {
   there = wrote.there;
   is_its = wrote.is_its;
   own = wrote.own ∙ hart;
-  before = key_below-not_above key next after wrote.before rises;
+  before = below-not_above key next after wrote.before rises;
   covering = wrote.covering;
 }
 

@@ -1,4 +1,4 @@
-mod Choices
+pub mod Choices
 mod Floors
 mod Fronts
 mod KeyMoments
@@ -8,5 +8,5 @@ mod Places
 mod Ranks
 mod Steady
 mod TriedMoments
-mod Untaken
+pub mod Untaken
 mod YoungestStores

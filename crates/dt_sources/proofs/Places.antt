@@ -16,15 +16,6 @@ more_written P xs i y within before here j d below = elim (cases_eq j i) [
   | inr apart ↦ subst (P j) (sym (get_or-set_other xs i j y d apart)) (before j d (omega arith))
 ]
 
-pub slice_get-append_left : {X : Type 0} (xs ys : List X) (i : ℕ) → i < length xs → slice_get (xs ++ ys) i ≡ slice_get xs i
-slice_get-append_left [] ys i within = absurd (omega arith)
-slice_get-append_left (x ∷ xs) ys zero within = refl
-slice_get-append_left (x ∷ xs) ys (suc i) within = slice_get-append_left xs ys i (omega arith)
-
-pub slice_get-append_seam : {X : Type 0} (xs : List X) (y : X) (ys : List X) → slice_get (xs ++ y ∷ ys) (length xs) ≡ Some y
-slice_get-append_seam [] y ys = refl
-slice_get-append_seam (x ∷ xs) y ys = slice_get-append_seam xs y ys
-
 -- an element within the list does not depend on the default
 pub get_or-any : {X : Type 0} (xs : List X) (i : ℕ) (d e : X) → i < length xs → get_or xs i d ≡ get_or xs i e
 get_or-any xs i d e within =

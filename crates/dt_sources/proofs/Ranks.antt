@@ -1,5 +1,6 @@
 use Rattle.std.proofs.Common.{◌≡◌, false, Option, Some, None, List, refl, arith}
 use Rattle.std.proofs.lemmas.Bool.Decides.{nat_tests}
+use Rattle.dt_record.proofs.KeyChains.{key_not_below-chain}
 use Rattle.dt_record.specs.declared.keys.Key.{Key}
 use Rattle.dt_record.specs.Keys.{key_below}
 use Rattle.dt_record.proofs.KeyLaws.{key_below-itself}
@@ -19,15 +20,12 @@ not_below_image Lowest = refl
 not_below_image (At key) = refl
 not_below_image Highest = refl
 
-keys_chain : (a b c : Key) → key_below a b ≡ false → key_below b c ≡ false → key_below a c ≡ false
-keys_chain a b c first second = grind (arith, nat_tests)
-
 -- what does not stand below one that does not stand below a third does not stand below that
 pub not_below-chain : (a b c : Rank) → rank_below a b ≡ false → rank_below b c ≡ false → rank_below a c ≡ false
 not_below-chain a b Lowest first second = not_below_image a
 not_below-chain a Lowest (At key) first second = cc
 not_below-chain Lowest (At j) (At key) first second = cc
-not_below-chain (At i) (At j) (At key) first second = keys_chain i j key first second
+not_below-chain (At i) (At j) (At key) first second = key_not_below-chain i j key first second
 not_below-chain Highest (At j) (At key) first second = refl
 not_below-chain Lowest Highest (At key) first second = cc
 not_below-chain (At i) Highest (At key) first second = cc

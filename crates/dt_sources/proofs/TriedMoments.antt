@@ -4,6 +4,7 @@ use Rattle.std.specs.List.{slice_get}
 use Rattle.std.proofs.lemmas.Bool.{and_parts, and_from, cases_lt, eqb-true, eq-eqb, not-true, not_from_false, false≢true}
 use Rattle.std.proofs.lemmas.Bool.Decides.{nat_tests}
 use Rattle.std.proofs.lemmas.Option.{slice_get-get_or}
+use Rattle.dt_lists.proofs.Lists.{slice_get-take}
 use Rattle.dt_record.specs.declared.accesses.LoadAsk.{LoadAsk}
 use Rattle.dt_record.specs.declared.origins.Origin.{Origin}
 use Rattle.dt_record.specs.declared.origins.Origin.TheVariants as origin
@@ -172,16 +173,10 @@ none_tried h actions local ask first last bytes for visible none k fits =
     let seen = (visible.exact k).0 fits.visible in
     absurd (false≢true (sym (none k seen.0 seen.1) ∙ tried_from_fits h actions local ask k bytes for fits))
 
-slice_get_take : {X : Type 0} (n : ℕ) (xs : List X) (i : ℕ) (x : X) → slice_get (take n xs) i ≡ Some x → slice_get xs i ≡ Some x
-slice_get_take zero xs i x is = absurd (cc is)
-slice_get_take (suc n) [] i x is = absurd (cc is)
-slice_get_take (suc n) (y ∷ ys) zero x is = is
-slice_get_take (suc n) (y ∷ ys) (suc i) x is = slice_get_take n ys i x is
-
 pub known_front : (actions : List Action) (local : LocalMemory) (at addr n : ℕ) (bytes : List LoadByte) → AreKnown actions local at addr bytes → AreKnown actions local at addr (take n bytes)
 known_front actions local at addr n bytes known = record {
-  own = λ i b is. known.own i b (slice_get_take n bytes i b is);
-  newest = λ i b is. known.newest i b (slice_get_take n bytes i b is);
+  own = λ i b is. known.own i b (slice_get-take n bytes i b is);
+  newest = λ i b is. known.newest i b (slice_get-take n bytes i b is);
 }
 
 pub known_for : (actions : List Action) (local : LocalMemory) (ask : LoadAsk) (n : ℕ) (bytes : List LoadByte) → StoresAreApart actions → n ≡ ask.width → n ≤ length bytes

@@ -6,6 +6,7 @@ use Rattle.std.proofs.lemmas.Bool.{and_parts, and_from, cases_lt, lt-leb, le-leb
 use Rattle.std.proofs.lemmas.Bool.Decides.{nat_tests}
 use Rattle.std.proofs.lemmas.List.Elements.{filter-append}
 use Rattle.std.proofs.lemmas.Option.{slice_get-map}
+use Rattle.dt_lists.proofs.Lists.{list_all-get, slice_get-append_seam}
 use Rattle.dt_record.specs.declared.keys.Key.{Key}
 use Rattle.dt_record.specs.declared.accesses.OwnStore.{OwnStore}
 use Rattle.dt_record.specs.Memory.{line_of}
@@ -14,15 +15,9 @@ use Rattle.dt_record.proofs.Holding.{held_from, held-is_from}
 use Rattle.dt_stores.specs.Places.{is_store_place, is_store_width}
 use Rattle.dt_stores.specs.Standing.{stores_of}
 use Rattle.dt_record.specs.Lawful.{is_in_ram}
-use Rattle.dt_sources.proofs.Places.{slice_get-append_seam}
 use Rattle.dt_sources.proofs.YoungestStores.{is_forward, forwarded_last, none_forwarded, stores_held}
 
 -- A store that no drain has taken is forwarded, or a younger one is that no drain has taken either.
-
-pub list_all-get : {X : Type 0} (p : X → Bool) (xs : List X) (i : ℕ) (x : X) → list_all p xs ≡ true → slice_get xs i ≡ Some x → p x ≡ true
-list_all-get p [] i x all is = absurd (cc is)
-list_all-get p (y ∷ ys) zero x all is = let same : y ≡ x = cc is in ap p (sym same) ∙ (and_parts (p y) (list_all p ys) all).0
-list_all-get p (y ∷ ys) (suc i) x all is = list_all-get p ys i x (and_parts (p y) (list_all p ys) all).1 is
 
 slice_get-append_past : {X : Type 0} (xs : List X) (y : X) (ys : List X) (i : ℕ) → length xs < i → slice_get (xs ++ y ∷ ys) i ≡ slice_get ys (i - (length xs + 1))
 slice_get-append_past [] y ys zero past = absurd (omega arith)
@@ -86,7 +81,7 @@ untaken_after all seen ww wr (Fenced fence_ww fence_wr fence_rr ∷ xs) i j h g 
 untaken_after all seen ww wr (Loaded ask ∷ xs) i j h g after h_is g_is same free = untaken_after all seen ww wr xs i j h g after h_is g_is same free
 untaken_after all seen ww wr (Atomic key addr width reads acquires ∷ xs) i j h g after h_is g_is same free = untaken_after all seen ww wr xs i j h g after h_is g_is same free
 
-widths : (w : ℕ) → IsTrue (is_store_width w) → (w ≡ 1) ⊎ ((w ≡ 2) ⊎ ((w ≡ 4) ⊎ (w ≡ 8)))
+pub widths : (w : ℕ) → IsTrue (is_store_width w) → (w ≡ 1) ⊎ ((w ≡ 2) ⊎ ((w ≡ 4) ⊎ (w ≡ 8)))
 widths w narrow = grind (arith, nat_tests)
 
 -- a store that covers a byte lies on its line

@@ -5,12 +5,13 @@ use Rattle.std.proofs.lemmas.Bool.{and_parts, and_from, cond-true, cond-false, e
 use Rattle.std.proofs.lemmas.List.{reverse-append, take-append-drop}
 use Rattle.std.proofs.lemmas.Option.{slice_get_within}
 use Rattle.std.proofs.lemmas.List.Folds.{find-append}
+use Rattle.dt_stores.proofs.ActionLaws.{stores_of-append}
+use Rattle.dt_lists.proofs.Lists.{slice_get-append_left, slice_get-append_seam, option_or-none}
 use Rattle.dt_record.specs.declared.accesses.OwnStore.{OwnStore}
 use Rattle.dt_record.specs.Actions.{Action, Stored, Drained, Fenced, Loaded, Atomic, Held, held_of, raised, is_undrained, store_covers, forwarded}
 use Rattle.dt_record.proofs.Holding.{held_from, held-is_from}
 use Rattle.dt_stores.specs.Standing.{stores_of}
 use Rattle.dt_sources.specs.Finding.{are_apart, StoresAreApart}
-use Rattle.dt_sources.proofs.Places.{slice_get-append_left, slice_get-append_seam}
 
 -- The youngest store that passes a test, and how it is found again by its number.
 
@@ -49,10 +50,6 @@ last_found {X = X} p (y ∷ ys) x found = parts (last_found p ys x) (find p (rev
         let one : y ≡ x = cc gives in
         record { before = []; after = ys; split = ap (λ z. z ∷ ys) one; passes = ap p (sym one) ∙ passes; none_after = none_passes p ys is }
     parts rest None false is passes gives = absurd (cc gives)
-
-option_or-none : {X : Type 0} (o : Option X) → option_or o None ≡ o
-option_or-none None = refl
-option_or-none (Some x) = refl
 
 pub find-reverse-filter : {X : Type 0} (q p : X → Bool) (xs : List X) → find p (reverse (filter q xs)) ≡ find (λ x. q x && p x) (reverse xs)
 find-reverse-filter {X = X} q p [] = refl
@@ -114,14 +111,6 @@ found_again actions i h apart is =
 -- the place of the last one that passes
 pub held_at : (hs : List Held) (h : Held) (before after : List Held) → hs ≡ before ++ h ∷ after → slice_get hs (length before) ≡ Some h
 held_at hs h before after split = ap (λ l. slice_get l (length before)) split ∙ slice_get-append_seam before h after
-
-stores_of-append : (xs ys : List Action) → stores_of (xs ++ ys) ≡ stores_of xs ++ stores_of ys
-stores_of-append [] ys = refl
-stores_of-append (Stored s ∷ xs) ys = ap (λ l. s ∷ l) (stores_of-append xs ys)
-stores_of-append (Drained key on count ∷ xs) ys = stores_of-append xs ys
-stores_of-append (Fenced ww wr rr ∷ xs) ys = stores_of-append xs ys
-stores_of-append (Loaded ask ∷ xs) ys = stores_of-append xs ys
-stores_of-append (Atomic key addr width reads acquires ∷ xs) ys = stores_of-append xs ys
 
 -- a store among first actions keeps its place among all
 pub stores_of-front : (m : ℕ) (actions : List Action) (i : ℕ) (s : OwnStore) → slice_get (stores_of (take m actions)) i ≡ Some s → slice_get (stores_of actions) i ≡ Some s

@@ -1,6 +1,6 @@
 ghost use Rattle.std.specs.Prelude.{◌≡◌, ℕ, ◌+◌, ◌%◌, ◌≤◌, ◌<◌, List, Some, true, false, length, take, slice_get, IsTrue, MatchOption};
 ghost use Rattle.dt_record.specs.Actions.{Action};
-ghost use Rattle.dt_stores.specs.Standing.{StandsFor};
+ghost use Rattle.dt_stores.specs.Standing.{StoresStand};
 ghost use Rattle.dt_stores.specs.Draining.{forward_after};
 ghost use Rattle.dt_local.specs.LocalMemory.{newest_of};
 ghost use Rattle.dt_sources.specs.Finding.{is_load_place, StoresAreApart, FitsAsKnown, IsLeastMoment, AreSourcesAt, OnAt, OnNowhere};
@@ -27,9 +27,9 @@ pub enum Found {
 pub fn find(m: &Moments, s: &Stores, l: &Local, ask: LoadAsk) -> Found
     requires early { ask.at ≤ ask.key.stamp }
     requires place { IsTrue (is_load_place ask) }
-    ensures least { OnAt result (λ moment sources. (actions : List Action) → StandsFor s.now actions → StoresAreApart actions → IsLeastMoment m.now.image m.now.writes l.now actions ask moment) }
-    ensures sources { OnAt result (λ moment sources. (actions : List Action) → StandsFor s.now actions → AreSourcesAt m.now.writes actions ask moment sources) }
-    ensures nowhere { OnNowhere result ((actions : List Action) → StandsFor s.now actions → StoresAreApart actions → (k : ℕ) → ¬ FitsAsKnown m.now.image m.now.writes l.now actions ask k) }
+    ensures least { OnAt result (λ moment sources. (actions : List Action) → StoresStand s.now actions → StoresAreApart actions → IsLeastMoment m.now.image m.now.writes l.now actions ask moment) }
+    ensures sources { OnAt result (λ moment sources. (actions : List Action) → StoresStand s.now actions → AreSourcesAt m.now.writes actions ask moment sources) }
+    ensures nowhere { OnNowhere result ((actions : List Action) → StoresStand s.now actions → StoresAreApart actions → (k : ℕ) → ¬ FitsAsKnown m.now.image m.now.writes l.now actions ask k) }
 {
     let known = known_bytes(s, l, ask);
     let bytes = &known[..usize::from(ask.width)];
@@ -48,7 +48,7 @@ pub fn find(m: &Moments, s: &Stores, l: &Local, ask: LoadAsk) -> Found
 /// What is known of each byte of a load before any moment is tried.
 fn known_bytes(s: &Stores, l: &Local, ask: LoadAsk) -> [LoadByte; 8]
     requires in_ram { ask.addr < 0x8400_0000 }
-    ensures own { (actions : List Action) → StandsFor s.now actions → (i : ℕ) (b : LoadByte) → slice_get result i ≡ Some b → b.own ≡ forward_after actions (ask.addr + i) ask.at }
+    ensures own { (actions : List Action) → StoresStand s.now actions → (i : ℕ) (b : LoadByte) → slice_get result i ≡ Some b → b.own ≡ forward_after actions (ask.addr + i) ask.at }
     ensures newest { (i : ℕ) (b : LoadByte) → slice_get result i ≡ Some b → b.newest ≡ newest_of l.now (ask.addr + i) }
 {
     let mut bytes = [LoadByte {
@@ -62,7 +62,7 @@ fn known_bytes(s: &Stores, l: &Local, ask: LoadAsk) -> [LoadByte; 8]
 }
 
 fn known_byte(s: &Stores, l: &Local, addr: u64, at: u64) -> LoadByte
-    ensures own { (actions : List Action) → StandsFor s.now actions → result.own ≡ forward_after actions addr at }
+    ensures own { (actions : List Action) → StoresStand s.now actions → result.own ≡ forward_after actions addr at }
     ensures newest { result.newest ≡ newest_of l.now addr }
 {
     LoadByte {

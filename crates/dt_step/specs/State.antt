@@ -1,6 +1,6 @@
 use Rattle.std.specs.Prelude.{ℕ, ◌≡◌, ◌+◌, ◌%◌, ◌^◌, ◌==◌, if◌then◌else◌, slice_index, slice_set, replicate}
 use Rattle.dt_csr.specs.declared.modes.TheConstants.{MACHINE}
-use Rattle.dt_csr.specs.Kept.{IsKept, NamesMode}
+use Rattle.dt_csr.specs.Kept.{AreKeptInBounds, NamesMode}
 use Rattle.dt_csr.specs.Modes.{IsMode}
 use Rattle.dt_csr.specs.Registers.{reset_csrs}
 use Rattle.dt_csr.specs.Traps.{entered, entered_pc, trap_mode}
@@ -15,7 +15,7 @@ pub record IsArch (a : Arch) : Type 0 where
 -- what a hart keeps from a reset on, besides: the bounds on its registers of control and status, and an even pc (Volume
 -- I, section 1.5, and Volume II, section 3.1.14)
 pub record IsReachable (a : Arch) : Type 0 where
-  pub csrs : IsKept a.csrs
+  pub csrs : AreKeptInBounds a.csrs
   pub pc : a.pc % 2 ≡ 0
 
 -- the value of a register, where x0 is 0 (Volume I, section 2.1)

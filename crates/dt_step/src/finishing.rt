@@ -1,6 +1,6 @@
 ghost use Rattle.std.specs.Prelude.{◌≡◌, ◌<◌, ◌⊎◌, ℕ, IsTrue, slice_index};
 ghost use Rattle.dt_csr.specs.declared.state.Csrs.{Csrs};
-ghost use Rattle.dt_csr.specs.Kept.{IsKept, NamesMode};
+ghost use Rattle.dt_csr.specs.Kept.{AreKeptInBounds, NamesMode};
 ghost use Rattle.dt_csr.specs.Modes.{IsMode};
 ghost use Rattle.dt_decode.specs.Decoded.{IsDecoded};
 ghost use Rattle.dt_decode.specs.declared.instructions.Instr.{Instr};
@@ -111,7 +111,7 @@ fn return_by_sret(a: &mut Arch)
 fn access_csr(a: &mut Arch, number: u16, op: CsrOp, operand: u64, writes: bool, rd: u8, value: u64)
     ensures state { a.new ≡ record a.old { csrs = csrs_after a.old number op operand writes rd value } }
     ensures mpp { NamesMode a.old.csrs.mstatus → NamesMode a.new.csrs.mstatus }
-    ensures keeps { IsKept a.old.csrs → IsKept a.new.csrs }
+    ensures keeps { AreKeptInBounds a.old.csrs → AreKeptInBounds a.new.csrs }
 {
     let mode = a.mode;
     let shown = read(&a.csrs, mode, a.hart, number);
@@ -126,7 +126,7 @@ fn access_csr(a: &mut Arch, number: u16, op: CsrOp, operand: u64, writes: bool, 
 fn note(c: &mut Csrs, shown: CsrRead, rd: u8, value: u64)
     ensures registers { c.new ≡ after_read c.old shown rd value }
     ensures mpp { NamesMode c.old.mstatus → NamesMode c.new.mstatus }
-    ensures keeps { IsKept c.old → IsKept c.new }
+    ensures keeps { AreKeptInBounds c.old → AreKeptInBounds c.new }
 {
     match shown {
         CsrRead::Counter(counter) if rd != 0 => c.set_floor(counter, value),

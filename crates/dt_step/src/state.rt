@@ -1,5 +1,5 @@
 ghost use Rattle.std.specs.Prelude.{◌≡◌, ◌<◌, ◌%◌, ℕ};
-ghost use Rattle.dt_csr.specs.Kept.{IsKept};
+ghost use Rattle.dt_csr.specs.Kept.{AreKeptInBounds};
 ghost use Rattle.dt_step.specs.State.{IsArch, IsReachable, register, with_register, reset_arch, trapped};
 
 use dt_csr::{Csrs, MACHINE, enter_trap};

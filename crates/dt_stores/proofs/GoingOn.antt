@@ -7,7 +7,7 @@ use Rattle.dt_record.specs.declared.keys.Key.{Key}
 use Rattle.dt_record.specs.declared.accesses.OwnStore.{OwnStore}
 use Rattle.dt_record.specs.Actions.{Action, Stored, Drained, Fenced, Loaded, Atomic, Held, held_of, ww_fences, wr_fences, drains_on}
 use Rattle.dt_stores.specs.Kept.{Kept, without_past}
-use Rattle.dt_stores.specs.Standing.{StandsFor, stores_of, counted}
+use Rattle.dt_stores.specs.Standing.{StoresStand, stores_of, counted}
 use Rattle.dt_stores.specs.Draining.{is_waiting_on}
 use Rattle.dt_stores.specs.Plans.{TakesFirst}
 use Rattle.dt_stores.specs.GoingOn.{StoresGoOn, AreDrainedBelow, DrainsStayBelow, is_quiet}
@@ -59,17 +59,17 @@ marked_takes line key count old new front is = record {
 }
 
 -- what stands for the actions has their stores and fences
-standing : (kept : Kept) (actions : List Action) → StandsFor kept actions → StandsFor (without_past (held_of actions) (ww_fences actions) (wr_fences actions)) actions
+standing : (kept : Kept) (actions : List Action) → StoresStand kept actions → StoresStand (without_past (held_of actions) (ww_fences actions) (wr_fences actions)) actions
 standing kept actions stands = record { held = refl; ww = refl; wr = refl; filled = stands.filled }
 
-stored_last : (kept : Kept) (actions : List Action) (s : OwnStore) → StandsFor kept actions
+stored_last : (kept : Kept) (actions : List Action) (s : OwnStore) → StoresStand kept actions
     → held_of (actions ++ Stored s ∷ []) ≡ held_of actions ++ record { store = s; barrier = ww_fences actions; readers = wr_fences actions; drained = None } ∷ []
 stored_last kept actions s stands =
     let old : Kept = without_past (held_of actions) (ww_fences actions) (wr_fences actions) in
     let new : Kept = without_past (held_of actions ++ record { store = s; barrier = ww_fences actions; readers = wr_fences actions; drained = None } ∷ []) (ww_fences actions) (wr_fences actions) in
     sym (stands_stored old new s actions refl refl refl (standing kept actions stands)).held
 
-drained_first : (kept : Kept) (actions : List Action) (key : Key) (line count : ℕ) → StandsFor kept actions
+drained_first : (kept : Kept) (actions : List Action) (key : Key) (line count : ℕ) → StoresStand kept actions
     → count ≤ length (filter (is_waiting_on line) (held_of actions))
     → TakesFirst line key count (held_of actions) (held_of (actions ++ Drained key line count ∷ []))
 drained_first kept actions key line count stands enough =

@@ -1,4 +1,4 @@
-mod ActionLaws
+pub mod ActionLaws
 mod DrainLaws
 mod Firsts
 mod GoingBack

@@ -4,18 +4,11 @@ use Rattle.std.proofs.Math.Pow.{pow_mono}
 use Rattle.std.proofs.Math.Nat.{mod-eq_of_lt, mul-lt-mul_of_pos_right}
 use Rattle.std.proofs.lemmas.Nat.{pow-add, pow_pos}
 use Rattle.std.proofs.lemmas.List.{length-take-le}
+use Rattle.dt_record.proofs.Placed.{ones-fit}
 use Rattle.dt_record.specs.declared.accesses.OwnStore.{OwnStore}
 use Rattle.dt_record.specs.Spelling.{double}
 use Rattle.dt_record.specs.Writes.{width_mask}
 use Rattle.dt_stores.specs.Draining.{put_over}
-
--- a mask of so many ones stays within 64 bits
-ones-fit : (ones width place : ℕ) → ones < 2 ^ width → place + width ≤ 64 → ones * 2 ^ place < 2 ^ 64
-ones-fit ones width place few within =
-    let within-line : 2 ^ (width + place) ≤ 2 ^ 64 = pow_mono {i = width + place} {j = 64} (omega arith) in
-    let product : ones * 2 ^ place < 2 ^ width * 2 ^ place = mul-lt-mul_of_pos_right few (pow_pos place) in
-    let joined : 2 ^ (width + place) ≡ 2 ^ width * 2 ^ place = pow-add 2 width place in
-    omega arith
 
 -- so shifting it loses nothing
 pub shifted_mask : (place width : ℕ) → width ≤ 8 → place + width ≤ 64

@@ -6,7 +6,7 @@ use Rattle.dt_record.specs.Actions.{Action, Held, is_waiting}
 use Rattle.dt_stores.specs.declared.answers.DrainAnswer.{DrainAnswer}
 use Rattle.dt_stores.specs.declared.answers.DrainAnswer.TheVariants as answer
 use Rattle.dt_stores.specs.Kept.{Kept}
-use Rattle.dt_stores.specs.Standing.{StandsFor}
+use Rattle.dt_stores.specs.Standing.{StoresStand}
 use Rattle.dt_stores.specs.Draining.{is_waiting_on, is_barring, youngest_barrier, took, barred_or, answer_among, drain_answer, is_taking, OnTook}
 use Rattle.dt_stores.proofs.Firsts.{find-behind}
 
@@ -20,7 +20,7 @@ barred-none None a found = refl
 barred-none (Some h) a found = cc
 
 pub answer_stands : (kept : Kept) (line count : ℕ) (result : DrainAnswer) → result ≡ answer_among kept.held line count
-    → (actions : List Action) → StandsFor kept actions → result ≡ drain_answer actions line count
+    → (actions : List Action) → StoresStand kept actions → result ≡ drain_answer actions line count
 answer_stands kept line count result answers actions stands = answers ∙ ap (λ l. answer_among l line count) stands.held
 
 -- the answer by the stores that wait on the line

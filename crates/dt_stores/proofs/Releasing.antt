@@ -3,6 +3,7 @@ use Rattle.std.specs.Prelude.{is_none}
 use Rattle.std.specs.Option.{option_map_or}
 use Rattle.std.proofs.lemmas.Bool.{cases_Bool, cases_eq, and_parts, and_from, eq-eqb, ne_eqb, lt-ltb, le-ltb, false≢true}
 use Rattle.std.proofs.lemmas.List.{append-nil, take-append-le, take_all}
+use Rattle.dt_lists.proofs.Lists.{slice_get-end}
 use Rattle.dt_record.specs.declared.keys.Key.{Key}
 use Rattle.dt_record.specs.Memory.{line_of}
 use Rattle.dt_record.specs.Actions.{Held, is_on, is_waiting}
@@ -101,10 +102,6 @@ released-places on line zero left (h ∷ hs) =
     ]
 released-places on line (suc n) left (h ∷ hs) =
     ap (λ (l : List ℕ). if is_on on h.store then 0 ∷ map suc l else map suc l) (released-places on line (if is_on line h.store then n else suc n) left hs)
-
-slice_get-end : {X : Type 0} (xs : List X) (x : X) → slice_get (xs ++ x ∷ []) (length xs) ≡ Some x
-slice_get-end [] x = refl
-slice_get-end (y ∷ ys) x = slice_get-end ys x
 
 last_first-push : (late : List Late) (l : Late) (first : ℕ) → last_first (late ++ l ∷ []) first ≡ l.first
 last_first-push late l first =

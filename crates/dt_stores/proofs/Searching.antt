@@ -6,6 +6,7 @@ use Rattle.std.proofs.lemmas.Option.{get_or_from_slice_get}
 use Rattle.std.proofs.lemmas.List.Folds.{list_all-append, find_at}
 use Rattle.std.proofs.lemmas.List.Sums.{take_while-cons}
 use Rattle.std.proofs.lemmas.Bool.{cases_Bool, cases_lt, and_parts, and_from, or_cases, not-true, eqb-true, eq-eqb, leb-true, ltb-true, le-ltb, lt-ltb, false≢true}
+use Rattle.dt_lists.proofs.Lists.{filter-all, list_all-reverse}
 use Rattle.dt_record.specs.declared.accesses.OwnStore.{OwnStore}
 use Rattle.dt_record.specs.Memory.{line_of}
 use Rattle.dt_record.specs.Lawful.{is_in_ram}
@@ -37,25 +38,12 @@ all-from p (x ∷ xs) split =
     let parts = and_parts (p x) (splits p zero xs) split in
     and_from (p x) (list_all p xs) parts.0 (all-from p xs parts.1)
 
-all-filtered : {X : Type 0} (p : X → Bool) (xs : List X) → list_all p xs ≡ true → filter p xs ≡ xs
-all-filtered p [] all = refl
-all-filtered {X} p (x ∷ xs) all =
-    let parts = and_parts (p x) (list_all p xs) all in
-    rw parts.0 (ap (λ (l : List X). x ∷ l) (all-filtered p xs parts.1))
-
-all-reverse : {X : Type 0} (p : X → Bool) (xs : List X) → list_all p xs ≡ true → list_all p (reverse xs) ≡ true
-all-reverse p [] all = refl
-all-reverse p (x ∷ xs) all =
-    let parts = and_parts (p x) (list_all p xs) all in
-    ap (list_all p) (reverse-append (x ∷ []) xs) ∙ list_all-append p (reverse xs) (x ∷ [])
-    ∙ and_from (list_all p (reverse xs)) (p x && true) (all-reverse p xs parts.1) (and_from (p x) true parts.0 refl)
-
 -- the youngest that pass are those that pass, where the first fail and the others pass
 pub youngest-pass : {X : Type 0} (p : X → Bool) (n : ℕ) (xs : List X) → IsTrue (splits p n xs) → take_while p (reverse xs) ≡ reverse (filter p xs)
 youngest-pass p n [] split = refl
 youngest-pass p zero (x ∷ xs) split =
     let all : list_all p (x ∷ xs) ≡ true = all-from p (x ∷ xs) split in
-    all-pass p (reverse (x ∷ xs)) (all-reverse p (x ∷ xs) all) ∙ ap reverse (sym (all-filtered p (x ∷ xs) all))
+    all-pass p (reverse (x ∷ xs)) (list_all-reverse p (x ∷ xs) all) ∙ ap reverse (sym (filter-all p (x ∷ xs) all))
 youngest-pass p (suc n) (x ∷ xs) split =
     let parts = and_parts (not (p x)) (splits p n xs) split in
     let fails : p x ≡ false = not-true (p x) parts.0 in

@@ -7,9 +7,9 @@ use Rattle.dt_record.specs.declared.accesses.OwnStore.{OwnStore}
 use Rattle.dt_record.specs.declared.accesses.LoadAsk.{LoadAsk}
 use Rattle.dt_record.specs.Memory.{line_of}
 use Rattle.dt_record.specs.Actions.{Action, Stored, Drained, Fenced, Loaded, Atomic, Held, held_of, ww_fences, wr_fences, raised, drains_on, taker, is_on}
-use Rattle.dt_record.proofs.Holding.{held_from, held-is_from, ww_fences-append, wr_fences-append}
+use Rattle.dt_record.proofs.Holding.{held_from, held-is_from, ww_fences-append, wr_fences-append, one_fence}
 use Rattle.dt_stores.specs.Kept.{Kept}
-use Rattle.dt_stores.specs.Standing.{StandsFor, stores_of, counted}
+use Rattle.dt_stores.specs.Standing.{StoresStand, stores_of, counted}
 use Rattle.dt_stores.specs.Draining.{is_waiting_on}
 use Rattle.dt_stores.proofs.ActionLaws.{drains_on-append, stores_of-append, counted-append, held_from-append, held_from-same_drains, taker_past}
 use Rattle.dt_stores.proofs.DrainLaws.{marked, held_from-drained, waiting_from, more_drains, same_drains}
@@ -30,7 +30,7 @@ undrained_after : (actions : List Action) (action : Action) → ((line : ℕ) �
 undrained_after actions action none line =
     drains_on-append line actions (action ∷ []) ∙ ap (λ l. drains_on line actions ++ l) (none line) ∙ append-nil (drains_on line actions)
 
-still_filled : (kept : Kept) (actions : List Action) (action : Action) → ((line : ℕ) → drains_on line (action ∷ []) ≡ []) → StandsFor kept actions
+still_filled : (kept : Kept) (actions : List Action) (action : Action) → ((line : ℕ) → drains_on line (action ∷ []) ≡ []) → StoresStand kept actions
     → (line : ℕ) → counted (drains_on line (actions ++ action ∷ [])) ≤ length (filter (is_on line) (stores_of (actions ++ action ∷ [])))
 still_filled kept actions action none stands line =
     let same : counted (drains_on line (actions ++ action ∷ [])) ≡ counted (drains_on line actions) = ap counted (undrained_after actions action none line) in
@@ -51,7 +51,7 @@ pub stands_quietly : (old new : Kept) (actions : List Action) (action : Action)
     → ((line : ℕ) → drains_on line (action ∷ []) ≡ [])
     → ((all : List Action) (seen : List OwnStore) (ww wr : ℕ) → held_from all seen ww wr (action ∷ []) ≡ [])
     → new.held ≡ old.held → new.ww ≡ old.ww + ww_fences (action ∷ []) → new.wr ≡ old.wr + wr_fences (action ∷ [])
-    → StandsFor old actions → StandsFor new (actions ++ action ∷ [])
+    → StoresStand old actions → StoresStand new (actions ++ action ∷ [])
 stands_quietly old new actions action none nothing held ww wr stands = record {
   held = held ∙ stands.held ∙ sym (held_after actions action none
       ∙ ap (λ l. held_of actions ++ l) (nothing (actions ++ action ∷ []) (stores_of actions) (0 + ww_fences actions) (0 + wr_fences actions))
@@ -61,27 +61,24 @@ stands_quietly old new actions action none nothing held ww wr stands = record {
   filled = still_filled old actions action none stands;
 }
 
-pub stands_loaded : (kept : Kept) (ask : LoadAsk) (actions : List Action) → StandsFor kept actions → StandsFor kept (actions ++ Loaded ask ∷ [])
+pub stands_loaded : (kept : Kept) (ask : LoadAsk) (actions : List Action) → StoresStand kept actions → StoresStand kept (actions ++ Loaded ask ∷ [])
 stands_loaded kept ask actions stands =
     stands_quietly kept kept actions (Loaded ask) (λ _. refl) (λ _ _ _ _. refl) refl (omega arith) (omega arith) stands
 
 pub stands_atomic : (kept : Kept) (key : Key) (addr width : ℕ) (reads acquires : Bool) (actions : List Action)
-    → StandsFor kept actions → StandsFor kept (actions ++ Atomic key addr width reads acquires ∷ [])
+    → StoresStand kept actions → StoresStand kept (actions ++ Atomic key addr width reads acquires ∷ [])
 stands_atomic kept key addr width reads acquires actions stands =
     stands_quietly kept kept actions (Atomic key addr width reads acquires) (λ _. refl) (λ _ _ _ _. refl) refl (omega arith) (omega arith) stands
 
-raised-zero : (n : ℕ) (b : Bool) → raised n b ≡ n + raised 0 b
-raised-zero n b = elim b as (λ b. raised n b ≡ n + raised 0 b) [ true ↦ omega arith | false ↦ omega arith ]
-
 pub stands_fenced : (old new : Kept) (ww wr rr : Bool) (actions : List Action)
     → new.held ≡ old.held → new.ww ≡ raised old.ww ww → new.wr ≡ raised old.wr wr
-    → StandsFor old actions → StandsFor new (actions ++ Fenced ww wr rr ∷ [])
+    → StoresStand old actions → StoresStand new (actions ++ Fenced ww wr rr ∷ [])
 stands_fenced old new ww wr rr actions held ww_is wr_is stands =
-    stands_quietly old new actions (Fenced ww wr rr) (λ _. refl) (λ _ _ _ _. refl) held (ww_is ∙ raised-zero old.ww ww) (wr_is ∙ raised-zero old.wr wr) stands
+    stands_quietly old new actions (Fenced ww wr rr) (λ _. refl) (λ _ _ _ _. refl) held (ww_is ∙ one_fence old.ww ww) (wr_is ∙ one_fence old.wr wr) stands
 
 pub stands_stored : (old new : Kept) (s : OwnStore) (actions : List Action)
     → new.held ≡ old.held ++ record { store = s; barrier = old.ww; readers = old.wr; drained = None } ∷ [] → new.ww ≡ old.ww → new.wr ≡ old.wr
-    → StandsFor old actions → StandsFor new (actions ++ Stored s ∷ [])
+    → StoresStand old actions → StoresStand new (actions ++ Stored s ∷ [])
 stands_stored old new s actions held ww wr stands =
     let line : ℕ = line_of s.addr in
     let number : ℕ = length (filter (is_on (line_of s.addr)) (stores_of actions)) + 1 in
@@ -104,7 +101,7 @@ stands_stored old new s actions held ww wr stands =
     }
 
 -- a drain leaves no line with more stores counted than there are, where so many waited
-still_filled-drained : (kept : Kept) (actions : List Action) (key : Key) (line count : ℕ) → StandsFor kept actions
+still_filled-drained : (kept : Kept) (actions : List Action) (key : Key) (line count : ℕ) → StoresStand kept actions
     → count ≤ length (filter (is_waiting_on line) (held_of actions))
     → (on : ℕ) → counted (drains_on on (actions ++ Drained key line count ∷ [])) ≤ length (filter (is_on on) (stores_of (actions ++ Drained key line count ∷ [])))
 still_filled-drained kept actions key line count stands enough on =
@@ -139,7 +136,7 @@ held_drained actions key line count =
 pub stands_drained : (old new : Kept) (key : Key) (line count : ℕ) (actions : List Action)
     → new.held ≡ marked line key count old.held → new.ww ≡ old.ww → new.wr ≡ old.wr
     → count ≤ length (filter (is_waiting_on line) old.held)
-    → StandsFor old actions → StandsFor new (actions ++ Drained key line count ∷ [])
+    → StoresStand old actions → StoresStand new (actions ++ Drained key line count ∷ [])
 stands_drained old new key line count actions held ww wr enough stands =
     let waits : count ≤ length (filter (is_waiting_on line) (held_of actions)) = rw (← stands.held) enough in
     record {

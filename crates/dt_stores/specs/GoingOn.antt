@@ -4,7 +4,7 @@ use Rattle.dt_record.specs.declared.accesses.OwnStore.{OwnStore}
 use Rattle.dt_record.specs.Keys.{KeyBelow}
 use Rattle.dt_record.specs.Actions.{Action, Held, Stored, Drained, Fenced, Loaded, Atomic, held_of, ww_fences, wr_fences}
 use Rattle.dt_stores.specs.Kept.{Kept}
-use Rattle.dt_stores.specs.Standing.{StandsFor, stores_of}
+use Rattle.dt_stores.specs.Standing.{StoresStand, stores_of}
 use Rattle.dt_stores.specs.Draining.{is_waiting_on}
 use Rattle.dt_stores.specs.Plans.{TakesFirst}
 
@@ -32,7 +32,7 @@ DrainsBelow key (Atomic own addr width reads acquires) = Unit {0}
 
 -- A key that is above those of all drains of a hart stays so, where it is above that of the next one.
 abbrev pub DrainsStayBelow : Type 0
-DrainsStayBelow = (kept : Kept) (actions : List Action) (action : Action) (key : Key) → StandsFor kept actions → DrainsBelow key action
+DrainsStayBelow = (kept : Kept) (actions : List Action) (action : Action) (key : Key) → StoresStand kept actions → DrainsBelow key action
     → AreDrainedBelow key (held_of actions) → AreDrainedBelow key (held_of (actions ++ action ∷ []))
 
 -- A store comes last and waits; a drain takes the first so many that wait on its line, where so many
@@ -40,9 +40,9 @@ DrainsStayBelow = (kept : Kept) (actions : List Action) (action : Action) (key :
 -- than there were, as in actions that something kept stands for.
 pub record StoresGoOn : Type 0 where
   pub stores : (actions : List Action) (action : Action) → stores_of (actions ++ action ∷ []) ≡ stores_of actions ++ stores_of (action ∷ [])
-  pub stored : (kept : Kept) (actions : List Action) (s : OwnStore) → StandsFor kept actions
+  pub stored : (kept : Kept) (actions : List Action) (s : OwnStore) → StoresStand kept actions
       → held_of (actions ++ Stored s ∷ []) ≡ held_of actions ++ record { store = s; barrier = ww_fences actions; readers = wr_fences actions; drained = None } ∷ []
-  pub drained : (kept : Kept) (actions : List Action) (key : Key) (line count : ℕ) → StandsFor kept actions
+  pub drained : (kept : Kept) (actions : List Action) (key : Key) (line count : ℕ) → StoresStand kept actions
       → count ≤ length (filter (is_waiting_on line) (held_of actions))
       → TakesFirst line key count (held_of actions) (held_of (actions ++ Drained key line count ∷ []))
   pub quiet : (actions : List Action) (action : Action) → IsTrue (is_quiet action) → held_of (actions ++ action ∷ []) ≡ held_of actions

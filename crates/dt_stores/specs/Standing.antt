@@ -17,7 +17,7 @@ counted ((key, count) ∷ drains) = count + counted drains
 
 -- What is kept stands for the actions of a hart: it has their stores and their fences, and their
 -- drains took no more stores of a line than there were.
-pub record StandsFor (kept : Kept) (actions : List Action) : Type 0 where
+pub record StoresStand (kept : Kept) (actions : List Action) : Type 0 where
   pub held : kept.held ≡ held_of actions
   pub ww : kept.ww ≡ ww_fences actions
   pub wr : kept.wr ≡ wr_fences actions
@@ -25,4 +25,4 @@ pub record StandsFor (kept : Kept) (actions : List Action) : Type 0 where
 
 -- whatever actions the old value stands for, the new one stands for them and one more
 abbrev pub GainsAction : Kept → Kept → Action → Type 0
-GainsAction old new action = (actions : List Action) → StandsFor old actions → StandsFor new (actions ++ action ∷ [])
+GainsAction old new action = (actions : List Action) → StoresStand old actions → StoresStand new (actions ++ action ∷ [])

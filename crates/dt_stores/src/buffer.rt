@@ -4,7 +4,7 @@ ghost use Rattle.dt_record.specs.Keys.{KeyBelow};
 ghost use Rattle.dt_stores.specs.Kept.{without_past};
 ghost use Rattle.dt_stores.specs.Marks.{IsLive, KeepsMarks, undone, forgotten};
 ghost use Rattle.dt_stores.specs.Places.{is_store_place};
-ghost use Rattle.dt_stores.specs.Standing.{StandsFor, GainsAction};
+ghost use Rattle.dt_stores.specs.Standing.{StoresStand, GainsAction};
 ghost use Rattle.dt_stores.specs.Draining.{drain_answer, forward_after, OnTook, OnRefused, UnlessOutOfMemory};
 ghost use Rattle.dt_stores.specs.Oldest.{oldest_after};
 
@@ -65,7 +65,7 @@ impl Stores {
     /// No store and no fence.
     pub fn new(alloc: Global) -> Stores
         ensures value { result ≡ without_past [] 0 0 }
-        ensures stands { StandsFor result [] }
+        ensures stands { StoresStand result [] }
     {
         Stores {
             entries: Vec::new(alloc),
@@ -122,7 +122,7 @@ impl Stores {
     /// it.
     pub fn drain(&mut self, key: Key, line: u64, count: u16) -> DrainAnswer
         requires { All (λ h. IfSome h.drained (λ k. KeyBelow k key)) self.old.held }
-        ensures answer { UnlessOutOfMemory result ((actions : List Action) → StandsFor self.old actions → result ≡ drain_answer actions line count) }
+        ensures answer { UnlessOutOfMemory result ((actions : List Action) → StoresStand self.old actions → result ≡ drain_answer actions line count) }
         ensures took { OnTook result (GainsAction self.old self.new (Drained key line count)) }
         ensures marks { OnTook result (KeepsMarks self.old self.new) }
         ensures fences { (self.new.ww ≡ self.old.ww) × (self.new.wr ≡ self.old.wr) }
@@ -154,7 +154,7 @@ impl Stores {
 
     /// The answer that `drain` would give where memory does not run out.
     pub fn would_drain(&self, line: u64, count: u16) -> DrainAnswer
-        ensures { (actions : List Action) → StandsFor self.now actions → result ≡ drain_answer actions line count }
+        ensures { (actions : List Action) → StoresStand self.now actions → result ≡ drain_answer actions line count }
     {
         let waiting = waiting_at(&self.lines, line);
         answer_of(&self.entries, self.first, waiting, line, count)
@@ -163,7 +163,7 @@ impl Stores {
     /// What a load in the cycle `at` has for a byte from a store of its own hart. That is the
     /// youngest on the byte that still waits after the cycle: its drain, if any, is of a later one.
     pub fn forward(&self, addr: u64, at: u64) -> Option<Forward>
-        ensures { (actions : List Action) → StandsFor self.now actions → result ≡ forward_after actions addr at }
+        ensures { (actions : List Action) → StoresStand self.now actions → result ≡ forward_after actions addr at }
     {
         forward_from(
             &self.entries,
@@ -175,7 +175,7 @@ impl Stores {
 
     /// The seq of the oldest of these stores that still waits after the cycle `at`.
     pub fn oldest(&self, which: Which, at: u64) -> Option<u32>
-        ensures { (actions : List Action) → StandsFor self.now actions → result ≡ oldest_after actions which at }
+        ensures { (actions : List Action) → StoresStand self.now actions → result ≡ oldest_after actions which at }
     {
         match which {
             Which::Line(line) => oldest_from(&self.entries, places_at(&self.lines, line), at),

@@ -2,13 +2,13 @@ use Rattle.std.proofs.Common.{◌≡◌, Bool, true, false, cond, not, List, [],
 use Rattle.std.specs.List.{list_all}
 use Rattle.std.specs.List.Sorted.{ties}
 use Rattle.std.proofs.lemmas.Bool.{and_parts, and_from, cases_Bool, cond-true, cond-false, not-true, not_from_false, both_ways}
+use Rattle.dt_record.proofs.KeyChains.{key_not_below-chain}
 use Rattle.dt_record.specs.declared.keys.Key.{Key}
 use Rattle.dt_record.specs.Keys.{key_below}
 use Rattle.dt_record.proofs.KeyLaws.{key_below-back}
 use Rattle.dt_verdict.specs.declared.tallies.Noted.{Noted}
 use Rattle.dt_tallies.specs.Naming.{insert_note, notes_by_key}
 use Rattle.dt_writes.specs.KeyOrder.{under, keys_rise}
-use Rattle.dt_writes.proofs.KeyOrder.{not_below-chain}
 
 -- Notes sorted by insertion, which keeps the order of those with one key.
 
@@ -54,7 +54,7 @@ rises-insert n (m ∷ ms) rise =
           ∙ and_from (list_all (λ y. not (under note_key y n)) (m ∷ ms)) (keys_rise note_key (m ∷ ms))
           (and_from (not (under note_key m n)) (list_all (λ y. not (under note_key y n)) ms) (not_from_false _ above)
           (weaker (λ y. not (under note_key y m)) (λ y. not (under note_key y n)) ms
-          (λ y high. not_from_false _ (not_below-chain y.key m.key n.key (not-true _ high) above)) parts.0))
+          (λ y high. not_from_false _ (key_not_below-chain y.key m.key n.key (not-true _ high) above)) parts.0))
           rise
     ]
 
@@ -67,7 +67,7 @@ tied-same : (x m n : Noted) → tie x m ≡ true → tie x n ≡ true → key_be
 tied-same x m n first second =
     let tied_m = and_parts (not (under note_key x m)) (not (under note_key m x)) first in
     let tied_n = and_parts (not (under note_key x n)) (not (under note_key n x)) second in
-    not_below-chain m.key x.key n.key (not-true _ tied_m.1) (not-true _ tied_n.0)
+    key_not_below-chain m.key x.key n.key (not-true _ tied_m.1) (not-true _ tied_n.0)
 
 filter-insert : (x n : Noted) (ms : List Noted) → filter (tie x) (insert_note n ms) ≡ filter (tie x) (n ∷ ms)
 filter-insert x n [] = refl

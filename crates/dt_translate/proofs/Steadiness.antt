@@ -1,6 +1,7 @@
 -- Entries and halfwords over stretches in which their words are steady.
 use Rattle.std.proofs.Common.{◌≡◌, ℕ, ◌+◌, ◌*◌, ◌%◌, ◌^◌, ◌<◌, ◌≤◌, ◌==◌, Bool, IsTrue, List, refl, sym, ap, ◌∙◌, inl, inr, arith}
 use Rattle.std.proofs.lemmas.Bool.{cases_lt}
+use Rattle.dt_versions.proofs.Steady.{IsSteady-later}
 use Rattle.dt_access.specs.Reaching.{reached}
 use Rattle.dt_record.specs.declared.writes.Write.{Write}
 use Rattle.dt_record.specs.Memory.{memory_at}
@@ -22,9 +23,6 @@ entry_at-double image writes k addr =
     let sixth : memory (addr + 4 + 2) ≡ memory (addr + 6) = ap memory (omega arith) in
     let seventh : memory (addr + 4 + 2 + 1) ≡ memory (addr + 7) = ap memory (omega arith) in
     omega (arith, third, fifth, sixth, seventh)
-
-pub IsSteady-later : (writes : List Write) (addr from later k : ℕ) → from ≤ later → IsSteady writes addr from k → IsSteady writes addr later k
-IsSteady-later writes addr from later k rises is = record { none = λ byte j d in_word after before. is.none byte j d in_word (omega arith) before }
 
 -- it stays over a stretch in which its word is steady
 pub entry_at-steady : SteadyWordsStay → (image : List ℕ) (writes : List Write) (addr from j k : ℕ) → IsSteady writes addr from k → from ≤ j → j ≤ k → addr % 8 ≡ 0

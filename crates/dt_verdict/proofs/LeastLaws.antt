@@ -6,6 +6,7 @@ use Rattle.std.proofs.lemmas.List.{append-nil, take_more, take_all}
 use Rattle.std.proofs.lemmas.List.Elements.{All-nil, All-cons, All-head, All-tail, All-append, All-push, All-weaker, Contains-append_right, filter_map-append}
 use Rattle.std.proofs.lemmas.Bool.Decides.{nat_tests}
 use Rattle.std.proofs.lemmas.List.Folds.{list_all_at}
+use Rattle.dt_record.proofs.KeyChains.{below-not_above}
 use Rattle.dt_record.specs.declared.keys.Key.{Key}
 use Rattle.dt_record.specs.Keys.{key_below, KeyBelow}
 use Rattle.dt_record.proofs.KeyLaws.{KeyBelow-chain, key_below-itself, key_below-back}
@@ -29,12 +30,6 @@ abbrev pub Stands : List Failure → Verdict → Type 0
 Stands fs Pass = fs ≡ []
 Stands fs (Fail f) = IsFirstLeast fs f
 
-below_not : (a b c : Key) → KeyBelow a b → key_below c b ≡ false → KeyBelow a c
-below_not a b c low high = grind (arith, nat_tests)
-
-not_below : (a b : Key) → KeyBelow a b → key_below b a ≡ false
-not_below a b low = key_below-back a b low
-
 -- one more failure with a lower key than all before
 replaced : (fs : List Failure) (f g : Failure) → IsFirstLeast fs f → KeyBelow g.key f.key → IsFirstLeast (fs ++ g ∷ []) g
 replaced fs f g is low = record {
@@ -44,7 +39,7 @@ replaced fs f g is low = record {
   greater = rw is.whole (All-append (λ (x : Failure). KeyBelow g.key x.key) is.before (f ∷ is.behind)
       (All-weaker (λ (x : Failure). KeyBelow f.key x.key) (λ (x : Failure). KeyBelow g.key x.key) (λ x above. KeyBelow-chain g.key f.key x.key low above) is.before is.greater)
       (All-cons (λ (x : Failure). KeyBelow g.key x.key) f is.behind low
-      (All-weaker (λ (x : Failure). key_below x.key f.key ≡ false) (λ (x : Failure). KeyBelow g.key x.key) (λ x high. below_not g.key f.key x.key low high) is.behind is.not_lower)));
+      (All-weaker (λ (x : Failure). key_below x.key f.key ≡ false) (λ (x : Failure). KeyBelow g.key x.key) (λ x high. below-not_above g.key f.key x.key low high) is.behind is.not_lower)));
   not_lower = All-nil (λ (x : Failure). key_below x.key g.key ≡ false);
 }
 
@@ -76,7 +71,7 @@ Stands-kept fs (Fail f) g is sooner = kept fs f g is sooner
 -- no failure has a lower key
 least_all : (fs : List Failure) (f : Failure) → IsFirstLeast fs f → All (λ (g : Failure). key_below g.key f.key ≡ false) fs
 least_all fs f is = rw is.whole (All-append (λ (g : Failure). key_below g.key f.key ≡ false) is.before (f ∷ is.behind)
-    (All-weaker (λ (g : Failure). KeyBelow f.key g.key) (λ (g : Failure). key_below g.key f.key ≡ false) (λ g above. not_below f.key g.key above) is.before is.greater)
+    (All-weaker (λ (g : Failure). KeyBelow f.key g.key) (λ (g : Failure). key_below g.key f.key ≡ false) (λ g above. key_below-back f.key g.key above) is.before is.greater)
     (All-cons (λ (g : Failure). key_below g.key f.key ≡ false) f is.behind (key_below-itself f.key) is.not_lower))
 
 contained : (fs : List Failure) (f : Failure) → IsFirstLeast fs f → Contains fs f

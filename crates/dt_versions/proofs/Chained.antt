@@ -9,11 +9,12 @@ use Rattle.std.proofs.lemmas.List.{get_or_append_left, get_or_push, length-appen
 use Rattle.std.proofs.lemmas.Option.{unwrap_or-slice_get}
 use Rattle.std.proofs.lemmas.List.Folds.{list_all-append}
 use Rattle.std.proofs.lemmas.List.Sorted.{IsNonDecreasingBy-push}
+use Rattle.dt_lists.proofs.Lists.{list_all-weaker, list_all-at}
 use Rattle.dt_record.specs.declared.writes.Write.{Write}
 use Rattle.dt_record.specs.Lawful.{is_ram_line}
 use Rattle.dt_record.specs.Memory.{covers, line_of}
 use Rattle.dt_versions.specs.Chains.{IsChained, IsLastCover, line_place, newest_until, number_at, row_of}
-use Rattle.dt_versions.proofs.Places.{list_all-at, list_all-reverse, list_all-weaker}
+use Rattle.dt_versions.proofs.Places.{list_all-reverse}
 
 -- One more write.
 

@@ -3,22 +3,11 @@ use Rattle.std.specs.List.{list_all}
 use Rattle.std.proofs.lemmas.Bool.{and_parts, cases_lt, cond-true, cond-false, not-true}
 use Rattle.std.proofs.lemmas.List.{get_or-take, length-take, take-append-drop, append-nil}
 use Rattle.std.proofs.lemmas.List.Elements.{filter-append}
+use Rattle.dt_lists.proofs.Lists.{filter-all, filter-none}
 use Rattle.dt_versions.proofs.Places.{list_all-from}
 use Rattle.dt_versions.proofs.Seams.{low_end, at_low, unseen_between}
 
 -- A filter that keeps a front of a list.
-
-pub filter_all : {X : Type 0} (p : X → Bool) (xs : List X) → list_all p xs ≡ true → filter p xs ≡ xs
-filter_all p [] all = refl
-filter_all p (x ∷ xs) all =
-    let parts = and_parts (p x) (list_all p xs) all in
-    cond-true (p x) (x ∷ filter p xs) (filter p xs) parts.0 ∙ ap (λ ys. x ∷ ys) (filter_all p xs parts.1)
-
-pub filter_none : {X : Type 0} (p : X → Bool) (xs : List X) → list_all (λ x. not (p x)) xs ≡ true → filter p xs ≡ []
-filter_none p [] none = refl
-filter_none p (x ∷ xs) none =
-    let parts = and_parts (not (p x)) _ none in
-    cond-false (p x) (x ∷ filter p xs) (filter p xs) (not-true (p x) parts.0) ∙ filter_none p xs parts.1
 
 -- with an element, all before it pass too
 pub record IsClosed {X : Type 0} (p : X → Bool) (xs : List X) : Type 0 where
@@ -37,8 +26,8 @@ pub filter-closed : {X : Type 0} (p : X → Bool) (xs : List X) (d : X) → IsCl
 filter-closed p xs d closed =
     let n = low_end p xs in
     ap (filter p) (sym (take-append-drop n xs)) ∙ filter-append p (take n xs) (drop n xs)
-    ∙ ap (λ ys. ys ++ filter p (drop n xs)) (filter_all p (take n xs) (front_passes p xs d closed))
-    ∙ ap (λ ys. take n xs ++ ys) (filter_none p (drop n xs) (unseen_between p xs d n (omega arith)))
+    ∙ ap (λ ys. ys ++ filter p (drop n xs)) (filter-all p (take n xs) (front_passes p xs d closed))
+    ∙ ap (λ ys. take n xs ++ ys) (filter-none p (drop n xs) (unseen_between p xs d n (omega arith)))
     ∙ append-nil (take n xs)
 
 pub length-filter-closed : {X : Type 0} (p : X → Bool) (xs : List X) (d : X) → IsClosed p xs → length (filter p xs) ≡ low_end p xs

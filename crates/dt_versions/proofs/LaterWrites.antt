@@ -7,6 +7,7 @@ use Rattle.std.proofs.Math.Seq.{get_or-append_seam}
 use Rattle.std.proofs.lemmas.List.Elements.{filter-append}
 use Rattle.std.proofs.lemmas.List.Sums.{length-filter, count_by-le-length}
 use Rattle.std.proofs.lemmas.List.Folds.{list_all-append, list_any-append}
+use Rattle.dt_lists.proofs.Lists.{filter-none, list_all-weaker, list_all-at}
 use Rattle.dt_record.specs.declared.keys.Key.{Key}
 use Rattle.dt_record.specs.declared.writes.Write.{Write}
 use Rattle.dt_record.specs.Keys.{key_below}
@@ -15,9 +16,9 @@ use Rattle.dt_record.specs.Memory.{moment_of, is_touched}
 use Rattle.dt_record.specs.Visible.{must_see, cannot_see, IsVisible}
 use Rattle.dt_versions.specs.Laws.{AreAlike, LaterWritesDoNotCount}
 use Rattle.dt_versions.proofs.Orders.{KeyBelow-places, no_write}
-use Rattle.dt_versions.proofs.Places.{list_all-at, list_all-weaker, list_any-none}
+use Rattle.dt_versions.proofs.Places.{list_any-none}
 use Rattle.dt_versions.proofs.Seams.{low_end, unseen_between}
-use Rattle.dt_versions.proofs.Fronts.{IsClosed, filter-closed, filter_none}
+use Rattle.dt_versions.proofs.Fronts.{IsClosed, filter-closed}
 
 -- a write of a later cycle than the record's
 abbrev is_late : Key → Write → Bool
@@ -57,7 +58,7 @@ alike vs rest key at early late =
     let undue = list_all-weaker (is_late key) (λ w. not (must_see key at w)) rest (λ w l. late-undue key at w early l) late in
     let none_before = list_all-weaker (is_late key) (λ w. not (key_below w.key key)) rest (λ w l. not_from_false _ (late-above key w l)) late in
     let moments : moment_of (vs ++ rest) key ≡ moment_of vs key =
-    ap length (filter-append (λ w. key_below w.key key) vs rest ∙ ap (λ ws. filter (λ w. key_below w.key key) vs ++ ws) (filter_none (λ w. key_below w.key key) rest none_before) ∙ append-nil _) in
+    ap length (filter-append (λ w. key_below w.key key) vs rest ∙ ap (λ ws. filter (λ w. key_below w.key key) vs ++ ws) (filter-none (λ w. key_below w.key key) rest none_before) ∙ append-nil _) in
     let few : moment_of vs key ≤ length vs = omega (arith, length-filter (λ w. key_below w.key key) vs, count_by-le-length (λ w. key_below w.key key) vs) in
     record {
       visible = λ k. (

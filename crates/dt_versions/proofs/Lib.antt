@@ -12,6 +12,6 @@ mod OwnMoments
 mod Places
 mod RisingSources
 mod Seams
-mod Steady
+pub mod Steady
 mod VisibleEnds
 mod WordChanges

@@ -6,12 +6,12 @@ use Rattle.std.proofs.lemmas.List.{take_all}
 use Rattle.std.proofs.lemmas.Option.{slice_get_within, unwrap_or-slice_get}
 use Rattle.std.proofs.Math.Seq.{take-suc}
 use Rattle.std.proofs.lemmas.List.Folds.{list_all-append}
+use Rattle.dt_lists.proofs.Lists.{list_all-weaker, list_all-at}
 use Rattle.dt_record.specs.declared.keys.Key.{Key}
 use Rattle.dt_record.specs.declared.writes.Write.{Write}
 use Rattle.dt_record.specs.Keys.{key_below, KeyBelow}
 use Rattle.dt_record.proofs.KeyLaws.{KeyBelow-chain}
 use Rattle.dt_versions.specs.History.{are_in_order}
-use Rattle.dt_versions.proofs.Places.{list_all-at, list_all-weaker}
 
 -- Writes in the order of their keys.
 

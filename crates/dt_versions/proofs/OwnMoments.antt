@@ -6,6 +6,7 @@ use Rattle.std.proofs.lemmas.Bool.{and_left, and_right, both_ways, cases_Bool, c
 use Rattle.std.proofs.lemmas.List.{reverse-append}
 use Rattle.std.proofs.Math.Seq.{take-suc}
 use Rattle.std.proofs.lemmas.List.Sums.{length-filter, count_by-le-length}
+use Rattle.dt_lists.proofs.Lists.{list_all-weaker}
 use Rattle.dt_record.specs.declared.keys.Key.{Key}
 use Rattle.dt_record.specs.declared.writes.Write.{Write}
 use Rattle.dt_record.specs.Keys.{KeyBelow, key_below}
@@ -17,7 +18,6 @@ use Rattle.dt_versions.specs.Laws.{EarlierWritesAreHeld, LaterMomentsLieSince, O
 use Rattle.dt_versions.proofs.Fronts.{IsClosed, front_passes, length-filter-closed}
 use Rattle.dt_versions.specs.History.{are_in_order}
 use Rattle.dt_versions.proofs.Orders.{KeyBelow-places, no_write}
-use Rattle.dt_versions.proofs.Places.{list_all-weaker}
 use Rattle.dt_versions.proofs.RisingSources.{rank_below-source_at}
 use Rattle.dt_versions.proofs.Seams.{low_end, past_low, unseen_between}
 use Rattle.dt_versions.proofs.VisibleEnds.{AreVisible-ends}

@@ -3,24 +3,14 @@ use Rattle.std.specs.List.{list_all, list_any, find}
 use Rattle.std.specs.Prelude.{reverse}
 use Rattle.std.proofs.lemmas.Bool.{and_parts, and_from, cond-false, not-true, or_from}
 use Rattle.std.proofs.lemmas.List.{get_or-reverse, length-reverse}
+use Rattle.dt_lists.proofs.Lists.{list_all-at}
 
 -- Tests of all elements of a list, place by place.
-
-pub list_all-at : {X : Type 0} (p : X → Bool) (xs : List X) (i : ℕ) (d : X) → list_all p xs ≡ true → i < length xs → p (get_or xs i d) ≡ true
-list_all-at p [] i d all within = absurd (omega arith)
-list_all-at p (x ∷ xs) zero d all within = (and_parts (p x) (list_all p xs) all).0
-list_all-at p (x ∷ xs) (suc i) d all within = list_all-at p xs i d (and_parts (p x) (list_all p xs) all).1 (omega arith)
 
 pub list_all-from : {X : Type 0} (p : X → Bool) (d : X) (xs : List X) → ((i : ℕ) → i < length xs → p (get_or xs i d) ≡ true) → list_all p xs ≡ true
 list_all-from p d [] each = refl
 list_all-from p d (x ∷ xs) each =
     and_from (p x) (list_all p xs) (each 0 (omega arith)) (list_all-from p d xs (λ i within. each (suc i) (omega arith)))
-
-pub list_all-weaker : {X : Type 0} (p q : X → Bool) (xs : List X) → ((x : X) → p x ≡ true → q x ≡ true) → list_all p xs ≡ true → list_all q xs ≡ true
-list_all-weaker p q [] follows all = refl
-list_all-weaker p q (x ∷ xs) follows all =
-    let parts = and_parts (p x) (list_all p xs) all in
-    and_from (q x) (list_all q xs) (follows x parts.0) (list_all-weaker p q xs follows parts.1)
 
 pub list_all-reverse : {X : Type 0} (p : X → Bool) (d : X) (xs : List X) → list_all p xs ≡ true → list_all p (reverse xs) ≡ true
 list_all-reverse p d xs all = list_all-from p d (reverse xs) (λ i within.

@@ -5,6 +5,7 @@ use Rattle.std.specs.Prelude.{reverse}
 use Rattle.std.proofs.lemmas.Bool.{and_parts, cases_Bool, cond-true, cond-false}
 use Rattle.std.proofs.lemmas.List.{take-append-drop, reverse-append}
 use Rattle.std.proofs.lemmas.List.Folds.{find-append}
+use Rattle.dt_lists.proofs.Lists.{found_passes}
 use Rattle.dt_record.specs.declared.writes.Write.{Write}
 use Rattle.dt_record.specs.Keys.{key_below}
 use Rattle.dt_record.proofs.KeyLaws.{key_below-back, key_below-itself}
@@ -14,18 +15,6 @@ use Rattle.dt_versions.specs.History.{are_in_order}
 use Rattle.dt_versions.specs.Laws.{source_rank, SourcesRise}
 use Rattle.dt_versions.proofs.Orders.{in_order-seam, in_order-front}
 use Rattle.dt_versions.proofs.Places.{list_all-reverse, take-take}
-
--- what is found passes every test that all elements pass
-found_passes : {X : Type 0} (p q : X → Bool) (xs : List X) (x : X) → find p xs ≡ Some x → list_all q xs ≡ true → q x ≡ true
-found_passes p q [] x found all = cc
-found_passes p q (y ∷ ys) x found all =
-    let parts = and_parts (q y) (list_all q ys) all in
-    elim (cases_Bool (p y)) [
-      | inl here ↦
-          let same : y ≡ x = let e = sym (cond-true (p y) (Some y) (find p ys) here) ∙ found in cc in
-          ap q (sym same) ∙ parts.0
-      | inr past ↦ found_passes p q ys x (sym (cond-false (p y) (Some y) (find p ys) past) ∙ found) parts.1
-    ]
 
 -- in the order of the keys, what is found among later writes stands above what is found among earlier ones
 rising : (test : Write → Bool) (early late : List Write) → IsTrue (are_in_order (early ++ late))

@@ -4,7 +4,8 @@ use Rattle.std.specs.Prelude.{reverse}
 use Rattle.std.proofs.lemmas.Bool.{cases_lt, not-false, not-true, both_ways}
 use Rattle.std.proofs.lemmas.List.{get_or-reverse, get_or-take, get_or-drop, length-take, length-drop, length-reverse}
 use Rattle.std.proofs.lemmas.List.Sums.{prefix_len_passes, prefix_len_stops}
-use Rattle.dt_versions.proofs.Places.{list_all-at, list_all-from}
+use Rattle.dt_lists.proofs.Lists.{list_all-at}
+use Rattle.dt_versions.proofs.Places.{list_all-from}
 
 -- A list whose elements of one kind, the first, all stand before those of another, the last. The
 -- places that split them lie between two ends.

@@ -61,3 +61,7 @@ unfolding double_at
 steady_words image writes addr j k steady later aligned =
     same_double (memory_at image writes k) (memory_at image writes j) addr (steady_bytes image writes addr addr j k steady later refl)
     (λ i within. steady_bytes image writes addr (addr + i) j k steady later (omega arith))
+
+-- what is steady from a moment on is so from a later one on
+pub IsSteady-later : (writes : List Write) (addr from later k : ℕ) → from ≤ later → IsSteady writes addr from k → IsSteady writes addr later k
+IsSteady-later writes addr from later k rises is = record { none = λ byte j d in_word after before. is.none byte j d in_word (omega arith) before }

@@ -5,13 +5,14 @@ use Rattle.std.specs.List.Sorted.{IsNonDecreasing, IsPartitionPoint, IsPartition
 use Rattle.std.proofs.lemmas.Bool.{and_cases, both_ways, cases_eq, cases_lt, le-leb, leb-true, leb-false}
 use Rattle.std.proofs.lemmas.List.{get_or-drop, get_or-take, get_or_default, get_or_past, length-take}
 use Rattle.std.proofs.lemmas.List.Sums.{prefix_len_passes, prefix_len_stops, prefix_len-le-length}
+use Rattle.dt_lists.proofs.Lists.{list_all-at}
 use Rattle.dt_record.specs.declared.writes.Write.{Write}
 use Rattle.dt_record.specs.Memory.{covers}
 use Rattle.dt_versions.specs.Chains.{IsChained, IsLastCover, is_unchanged, line_place, newest_until, number_at, row_of}
 use Rattle.dt_versions.specs.Words.{IsChange, IsSteady}
 use Rattle.dt_versions.proofs.Newest.{newest_until-none, newest_until-some}
 use Rattle.dt_versions.proofs.Orders.{no_write}
-use Rattle.dt_versions.proofs.Places.{list_all-at, list_all-from}
+use Rattle.dt_versions.proofs.Places.{list_all-from}
 
 -- When a word changes, by the rows of its line.
 

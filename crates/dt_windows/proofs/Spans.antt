@@ -2,6 +2,7 @@ use Rattle.std.proofs.Common.{ℕ, ◌≡◌, ◌+◌, ◌≤◌, Bool, true, no
 use Rattle.std.specs.List.{list_all, prefix_len}
 use Rattle.std.proofs.lemmas.Bool.{and_parts, and_from, cases_Bool, cases_lt, cond-true, cond-false, not-false}
 use Rattle.std.proofs.lemmas.Bool.Decides.{nat_tests}
+use Rattle.dt_lists.proofs.Lists.{list_all-weaker}
 use Rattle.dt_record.specs.declared.keys.Key.{Key}
 use Rattle.dt_record.specs.declared.writes.Write.{Write}
 use Rattle.dt_record.specs.Keys.{key_below, KeyBelow}
@@ -13,12 +14,6 @@ use Rattle.dt_versions.specs.Spans.{first_visible, last_visible}
 use Rattle.dt_windows.specs.Laws.{SpansHaveMoments}
 
 -- What has to be seen at a fence may be seen at a later record.
-
-list_all-weaker : {X : Type 0} (p q : X → Bool) (xs : List X) → ((x : X) → p x ≡ true → q x ≡ true) → list_all p xs ≡ true → list_all q xs ≡ true
-list_all-weaker p q [] follows all = refl
-list_all-weaker p q (x ∷ xs) follows all =
-    let parts = and_parts (p x) (list_all p xs) all in
-    and_from (q x) (list_all q xs) (follows x parts.0) (list_all-weaker p q xs follows parts.1)
 
 list_all-shorter : {X : Type 0} (test : X → Bool) (j k : ℕ) (xs : List X) → j ≤ k → list_all test (take k xs) ≡ true → list_all test (take j xs) ≡ true
 list_all-shorter test zero k xs below all = refl

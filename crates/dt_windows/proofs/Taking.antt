@@ -14,7 +14,7 @@ use Rattle.dt_record.proofs.KeyLaws.{KeyBelow-chain, key_below-back, key_below-c
 use Rattle.dt_step.specs.declared.plans.Planned.{Planned}
 use Rattle.dt_step.specs.declared.plans.Planned.TheVariants.{Done, NeedsLoad, NeedsStore, NeedsAtomic, Csr, Returns, Fences, FenceI, FencesPages, Raises}
 use Rattle.dt_windows.specs.Fences.{Fence, fence_at, is_fence, is_instruction_fence, covers_all, covers_page, last_fence}
-use Rattle.dt_windows.specs.Kept.{WindowsView, StandsFor, TakesFence, later_of, page_key}
+use Rattle.dt_windows.specs.Kept.{WindowsView, FencesStand, TakesFence, later_of, page_key}
 use Rattle.dt_windows.specs.Laws.{LastFencesAreBelow, OtherPlansKeepWindows}
 
 -- How what is kept goes on standing for a hart's fences.
@@ -97,7 +97,7 @@ second_below key (Some a) (Some b) below = of_two key a b (key_below a b) refl b
 
 stands_past : (w : WindowsView) (fences : List Fence) (plan : Planned) (key : Key)
     → covers_all plan ≡ false → ((va : ℕ) → covers_page va plan ≡ false) → is_instruction_fence plan ≡ false
-    → StandsFor w fences → StandsFor w (fences ++ fence_at plan key ∷ [])
+    → FencesStand w fences → FencesStand w (fences ++ fence_at plan key ∷ [])
 stands_past w fences plan key some uncovered other stands = record {
   all = stands.all ∙ sym (last_past covers_all fences plan key some);
   pages = λ va. stands.pages va ∙ sym (last_past (covers_page va) fences plan key (uncovered va));

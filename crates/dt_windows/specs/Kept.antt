@@ -42,7 +42,7 @@ abbrev pub page_key : WindowsView → ℕ → Option Key
 page_key w va = later_of w.all (lookup (is_at (nat_cmp (va / 4096))) w.pages)
 
 -- what is kept stands for the fences of a hart: each key is that of the last of its kind
-pub record StandsFor (w : WindowsView) (fences : List Fence) : Type 0 where
+pub record FencesStand (w : WindowsView) (fences : List Fence) : Type 0 where
   pub all : w.all ≡ last_fence covers_all fences
   pub pages : (va : ℕ) → page_key w va ≡ last_fence (covers_page va) fences
   pub instructions : w.instructions ≡ last_fence is_instruction_fence fences
@@ -50,4 +50,4 @@ pub record StandsFor (w : WindowsView) (fences : List Fence) : Type 0 where
 -- whatever fences the old value stands for, the new one stands for them and a plan with a key above theirs
 abbrev pub TakesFence : WindowsView → WindowsView → Planned → Key → Type 0
 TakesFence old new plan key = (fences : List Fence) → IsTrue (list_all (λ f. key_below f.key key) fences)
-    → StandsFor old fences → StandsFor new (fences ++ fence_at plan key ∷ [])
+    → FencesStand old fences → FencesStand new (fences ++ fence_at plan key ∷ [])

@@ -6,14 +6,14 @@ use Rattle.dt_record.specs.Keys.{key_below, KeyBelow}
 use Rattle.dt_step.specs.declared.plans.Planned.{Planned}
 use Rattle.dt_versions.specs.History.{are_in_order}
 use Rattle.dt_windows.specs.Fences.{Fence, fence_at, is_fence, last_fence, span_since}
-use Rattle.dt_windows.specs.Kept.{WindowsView, StandsFor}
+use Rattle.dt_windows.specs.Kept.{WindowsView, FencesStand}
 
 -- Laws of a hart's fences (this project's own).
 
 -- what stands for some fences stands for them and a plan that is no fence
 abbrev pub OtherPlansKeepWindows : Type 0
 OtherPlansKeepWindows = (w : WindowsView) (fences : List Fence) (plan : Planned) (key : Key)
-    → is_fence plan ≡ false → StandsFor w fences → StandsFor w (fences ++ fence_at plan key ∷ [])
+    → is_fence plan ≡ false → FencesStand w fences → FencesStand w (fences ++ fence_at plan key ∷ [])
 
 -- the last fence of a kind stands before a key that all stand before
 abbrev pub LastFencesAreBelow : Type 0

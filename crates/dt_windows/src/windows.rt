@@ -1,7 +1,7 @@
 ghost use Rattle.std.specs.Prelude.{◌≡◌, ◌+◌, ℕ, Option, None, Some, [], true, false, length, OnOk, IfOk, OnErr};
 ghost use Rattle.dt_step.specs.declared.plans.Planned.TheVariants.{FenceI, FencesPages};
 ghost use Rattle.dt_windows.specs.Fences.{is_fence};
-ghost use Rattle.dt_windows.specs.Kept.{windows_view, page_key, later_of, ArePages, StandsFor, TakesFence};
+ghost use Rattle.dt_windows.specs.Kept.{windows_view, page_key, later_of, ArePages, FencesStand, TakesFence};
 ghost use Rattle.dt_windows.specs.Marks.{IsLive, KeepsMarks, undone, forgotten};
 
 use crate::pages::{add_slot, pages_of, set_key, slots_of, undo_steps};
@@ -50,7 +50,7 @@ impl Windows {
     /// Of a hart without a fence.
     pub fn new(alloc: Global) -> Windows
         ensures value { result ≡ windows_view None None [] }
-        ensures stands { StandsFor result [] }
+        ensures stands { FencesStand result [] }
     {
         Windows {
             instructions: None,

@@ -9,6 +9,8 @@ use Rattle.std.proofs.lemmas.List.Elements.{All-filter}
 use Rattle.std.proofs.lemmas.List.Sorted.{sorted_far}
 use Rattle.std.proofs.lemmas.List.Sums.{AllPass-from_list_all, list_all-from_AllPass}
 use Rattle.std.proofs.Math.Path.{fun_ext}
+use Rattle.dt_record.proofs.KeyChains.{key_not_below-chain}
+use Rattle.dt_lists.proofs.Lists.{list_all-filter}
 use Rattle.dt_record.specs.declared.keys.Key.{Key}
 use Rattle.dt_record.specs.Keys.{key_below}
 use Rattle.dt_record.specs.contracts.keys.KeyOrd.TheImpl.{ghosts}
@@ -18,17 +20,13 @@ use Rattle.dt_writes.specs.KeyOrder.{under, keys_rise}
 -- Lists whose elements have keys that do not fall. Two of them that hold the same elements at each
 -- key, in the same order, are one list.
 
--- a key that is not below a second, which is not below a third, is not below the third
-pub not_below-chain : (a b c : Key) → key_below a b ≡ false → key_below b c ≡ false → key_below a c ≡ false
-not_below-chain a b c first second = grind (arith, nat_tests)
-
 not_below-back : (a b : Key) → key_below a b ≡ true → key_below b a ≡ false
 not_below-back a b below = key_below-back a b below
 
 under-order : {X : Type 0} (key : X → Key) → IsStrictWeakOrder (under key)
 under-order key = record {
   one_way = λ x y below. not_below-back (key x) (key y) below;
-  chain = λ x y z first second. not_below-chain (key x) (key y) (key z) first second;
+  chain = λ x y z first second. key_not_below-chain (key x) (key y) (key z) first second;
 }
 
 ties-itself : {X : Type 0} (key : X → Key) (x : X) → ties (under key) x x ≡ true
@@ -49,7 +47,7 @@ found_not_before key n x (y ∷ ys) w ws high found =
     elim (cases_Bool (ties (under key) x y)) [
       | inl with ↦
           let tied = and_parts (not (under key x y)) (not (under key y x)) with in
-          not_below-chain (key x) (key y) (key n) (not-true _ tied.0) (not-true _ parts.0)
+          key_not_below-chain (key x) (key y) (key n) (not-true _ tied.0) (not-true _ parts.0)
       | inr without ↦ found_not_before key n x ys w ws parts.1 (sym (filter-dropped (ties (under key) x) y ys without) ∙ found)
     ]
 
@@ -93,7 +91,7 @@ rises_from_far key (x ∷ xs) far =
     (rises_from_far key xs (λ i j d before within. far (suc i) (suc j) d (suc-le-suc before) (suc-le-suc within)))
 
 -- the order that `Key` derives is that of the definition
-cmp-below : (a b : Key) → is_lt (ghosts.cmp a b) ≡ key_below a b
+pub cmp-below : (a b : Key) → is_lt (ghosts.cmp a b) ≡ key_below a b
 cmp-below a b = grind (arith, nat_tests)
 
 abbrev by_cmp : {X : Type 0} → (X → Key) → X → X → Bool
@@ -116,10 +114,6 @@ pub stable_sort_is_one : {X : Type 0} (key : X → Key) (given sorted ordered : 
 stable_sort_is_one key given sorted ordered up stable rise same =
     same_from_ties key sorted ordered (rises_from_sort key sorted up) rise (λ x. stable_from_sort key given sorted stable x ∙ sym (same x))
 
--- a filter keeps the order, and two filters may change places
-list_all-filter : {X : Type 0} (p q : X → Bool) (xs : List X) → list_all p xs ≡ true → list_all p (filter q xs) ≡ true
-list_all-filter p q xs all = list_all-from_AllPass p (filter q xs) (All-filter q (λ x. p x ≡ true) xs (AllPass-from_list_all p xs all))
-
 pub keys_rise-filter : {X : Type 0} (key : X → Key) (q : X → Bool) (xs : List X) → keys_rise key xs ≡ true → keys_rise key (filter q xs) ≡ true
 keys_rise-filter key q [] rise = refl
 keys_rise-filter key q (x ∷ xs) rise =
@@ -131,24 +125,3 @@ keys_rise-filter key q (x ∷ xs) rise =
           (list_all-filter (λ y. not (under key y x)) q xs parts.0) (keys_rise-filter key q xs parts.1)
       | inr fails ↦ ap (keys_rise key) (filter-dropped q x xs fails) ∙ keys_rise-filter key q xs parts.1
     ]
-
-pub filter-filter : {X : Type 0} (p q : X → Bool) (xs : List X) → filter p (filter q xs) ≡ filter q (filter p xs)
-filter-filter p q [] = refl
-filter-filter p q (x ∷ xs) = elim (cases_Bool (p x)) [
-  | inl kept ↦ elim (cases_Bool (q x)) [
-    | inl passes ↦
-        ap (filter p) (filter-kept q x xs passes) ∙ filter-kept p x (filter q xs) kept ∙ ap (λ l. x ∷ l) (filter-filter p q xs)
-        ∙ sym (ap (filter q) (filter-kept p x xs kept) ∙ filter-kept q x (filter p xs) passes)
-    | inr fails ↦
-        ap (filter p) (filter-dropped q x xs fails) ∙ filter-filter p q xs
-        ∙ sym (ap (filter q) (filter-kept p x xs kept) ∙ filter-dropped q x (filter p xs) fails)
-  ]
-  | inr dropped ↦ elim (cases_Bool (q x)) [
-    | inl passes ↦
-        ap (filter p) (filter-kept q x xs passes) ∙ filter-dropped p x (filter q xs) dropped ∙ filter-filter p q xs
-        ∙ sym (ap (filter q) (filter-dropped p x xs dropped))
-    | inr fails ↦
-        ap (filter p) (filter-dropped q x xs fails) ∙ filter-filter p q xs
-        ∙ sym (ap (filter q) (filter-dropped p x xs dropped))
-  ]
-]

@@ -2,6 +2,9 @@ use Rattle.std.proofs.Common.{◌≡◌, Bool, true, false, cond, not, ◌&&◌,
 use Rattle.std.specs.List.{list_all}
 use Rattle.std.specs.List.Sorted.{ties}
 use Rattle.std.proofs.lemmas.Bool.{and_parts, and_from, cases_Bool, cond-true, cond-false, not-true, not_from_false, or_cases, or_from, both_ways}
+use Rattle.dt_record.proofs.KeyChains.{key_not_below-chain}
+use Rattle.dt_record.proofs.Inserting.{insert-first, insert-later}
+use Rattle.dt_lists.proofs.Lists.{list_all-weaker}
 use Rattle.dt_record.specs.declared.keys.Key.{Key}
 use Rattle.dt_record.specs.declared.writes.Write.{Write}
 use Rattle.dt_record.specs.Keys.{key_below}
@@ -10,7 +13,6 @@ use Rattle.dt_record.specs.Writes.{insert_write, by_key}
 use Rattle.dt_versions.specs.History.{are_in_order}
 use Rattle.dt_writes.specs.Apart.{keys_differ, are_apart}
 use Rattle.dt_writes.specs.KeyOrder.{under, keys_rise}
-use Rattle.dt_writes.proofs.KeyOrder.{not_below-chain}
 
 -- Writes sorted by insertion.
 
@@ -20,25 +22,13 @@ write_key w = w.key
 abbrev pub tie : Write → Write → Bool
 tie = ties (under write_key)
 
-pub list_all-weaker : {X : Type 0} (p q : X → Bool) (xs : List X) → ((x : X) → p x ≡ true → q x ≡ true) → list_all p xs ≡ true → list_all q xs ≡ true
-list_all-weaker p q [] weaker all = refl
-list_all-weaker p q (x ∷ xs) weaker all =
-    let parts = and_parts (p x) (list_all p xs) all in
-    and_from (q x) (list_all q xs) (weaker x parts.0) (list_all-weaker p q xs weaker parts.1)
-
-inserted-first : (w v : Write) (vs : List Write) → key_below w.key v.key ≡ true → insert_write w (v ∷ vs) ≡ w ∷ v ∷ vs
-inserted-first w v vs below = cond-true _ _ _ below
-
-inserted-later : (w v : Write) (vs : List Write) → key_below w.key v.key ≡ false → insert_write w (v ∷ vs) ≡ v ∷ insert_write w vs
-inserted-later w v vs above = cond-false _ _ _ above
-
 list_all-insert : (p : Write → Bool) (w : Write) (vs : List Write) → p w ≡ true → list_all p vs ≡ true → list_all p (insert_write w vs) ≡ true
 list_all-insert p w [] here all = and_from (p w) true here refl
 list_all-insert p w (v ∷ vs) here all = elim (cases_Bool (key_below w.key v.key)) [
-  | inl below ↦ ap (list_all p) (inserted-first w v vs below) ∙ and_from (p w) (list_all p (v ∷ vs)) here all
+  | inl below ↦ ap (list_all p) (insert-first w v vs below) ∙ and_from (p w) (list_all p (v ∷ vs)) here all
   | inr above ↦
       let parts = and_parts (p v) (list_all p vs) all in
-      ap (list_all p) (inserted-later w v vs above) ∙ and_from (p v) (list_all p (insert_write w vs)) parts.0 (list_all-insert p w vs here parts.1)
+      ap (list_all p) (insert-later w v vs above) ∙ and_from (p v) (list_all p (insert_write w vs)) parts.0 (list_all-insert p w vs here parts.1)
 ]
 
 pub list_all-by_key : (p : Write → Bool) (ws : List Write) → list_all p ws ≡ true → list_all p (by_key ws) ≡ true
@@ -61,13 +51,13 @@ in_order-insert w (v ∷ vs) apart ordered =
     let others = and_parts (keys_differ w.key v.key) (list_all (λ u. keys_differ w.key u.key) vs) apart in
     elim (cases_Bool (key_below w.key v.key)) [
       | inl below ↦
-          ap are_in_order (inserted-first w v vs below)
+          ap are_in_order (insert-first w v vs below)
           ∙ and_from (list_all (λ u. key_below w.key u.key) (v ∷ vs)) (are_in_order (v ∷ vs))
           (and_from (key_below w.key v.key) (list_all (λ u. key_below w.key u.key) vs) below
           (list_all-weaker (λ u. key_below v.key u.key) (λ u. key_below w.key u.key) vs (λ u above. KeyBelow-chain w.key v.key u.key below above) parts.0))
           ordered
       | inr above ↦
-          ap are_in_order (inserted-later w v vs above)
+          ap are_in_order (insert-later w v vs above)
           ∙ and_from (list_all (λ u. key_below v.key u.key) (insert_write w vs)) (are_in_order (insert_write w vs))
           (list_all-insert (λ u. key_below v.key u.key) w vs (differ-other w.key v.key others.0 above) parts.0)
           (in_order-insert w vs others.1 parts.1)
@@ -94,8 +84,8 @@ tied-same x w v first second =
     let tied_w = and_parts (not (key_below x w)) (not (key_below w x)) first in
     let tied_v = and_parts (not (key_below x v)) (not (key_below v x)) second in
     or_from (key_below w v) (key_below v w)
-    (not_below-chain w x v (not-true _ tied_w.1) (not-true _ tied_v.0))
-    (not_below-chain v x w (not-true _ tied_v.1) (not-true _ tied_w.0))
+    (key_not_below-chain w x v (not-true _ tied_w.1) (not-true _ tied_v.0))
+    (key_not_below-chain v x w (not-true _ tied_v.1) (not-true _ tied_w.0))
 
 -- so an insertion keeps what ties in its order
 filter-insert : (x w : Write) (vs : List Write) → list_all (λ v. keys_differ w.key v.key) vs ≡ true
@@ -104,9 +94,9 @@ filter-insert x w [] apart = refl
 filter-insert x w (v ∷ vs) apart =
     let others = and_parts (keys_differ w.key v.key) (list_all (λ u. keys_differ w.key u.key) vs) apart in
     elim (cases_Bool (key_below w.key v.key)) [
-      | inl below ↦ ap (filter (tie x)) (inserted-first w v vs below)
+      | inl below ↦ ap (filter (tie x)) (insert-first w v vs below)
       | inr above ↦
-          ap (filter (tie x)) (inserted-later w v vs above)
+          ap (filter (tie x)) (insert-later w v vs above)
           ∙ elim (cases_Bool (tie x v)) [
             | inl with ↦ elim (cases_Bool (tie x w)) [
               | inl both ↦ absurd (both_ways (keys_differ w.key v.key) (tied-same x.key w.key v.key both with) others.0)

@@ -4,6 +4,7 @@ use Rattle.std.specs.List.{list_all}
 use Rattle.std.proofs.lemmas.Bool.{and_parts, and_from, cases_Bool, cond-true, cond-false, not_from_false, or_left, or_right, le-leb, leb-true, lt-ltb, ltb-true, eq-eqb, eqb-true, eqb-false, ne_eqb}
 use Rattle.std.proofs.lemmas.Bool.Decides.{nat_tests}
 use Rattle.std.proofs.lemmas.List.Elements.{filter-append}
+use Rattle.dt_lists.proofs.Lists.{filter-filter, list_all-weaker}
 use Rattle.dt_record.specs.declared.keys.Key.{Key}
 use Rattle.dt_record.specs.declared.writes.Write.{Write}
 use Rattle.dt_record.specs.declared.records.Record.{Record}
@@ -19,12 +20,12 @@ use Rattle.dt_writes.specs.Apart.{keys_differ, are_apart}
 use Rattle.dt_writes.specs.FileRecords.{AreFileRecords}
 use Rattle.dt_writes.specs.KeyOrder.{under, keys_rise}
 use Rattle.dt_writes.specs.OwnWrites.{own_writes_from}
-use Rattle.dt_writes.proofs.KeyOrder.{same_from_ties, keys_rise-filter, filter-filter}
-use Rattle.dt_writes.proofs.WriteOrder.{write_key, tie, list_all-weaker, list_all-by_key, in_order-by_key, rises_from_order, filter-by_key}
+use Rattle.dt_writes.proofs.KeyOrder.{same_from_ties, keys_rise-filter}
+use Rattle.dt_writes.proofs.WriteOrder.{write_key, tie, list_all-by_key, in_order-by_key, rises_from_order, filter-by_key}
 
 -- The writes that records make.
 
-key-body_write : (key : Key) (b : Body) (w : Write) → body_write key b ≡ Some w → w.key ≡ key
+pub key-body_write : (key : Key) (b : Body) (w : Write) → body_write key b ≡ Some w → w.key ≡ key
 key-body_write key (Drain line mask count bytes) w is = cc
 key-body_write key (Atomic retire paddr width true new) w is = cc
 key-body_write key (Atomic retire paddr width false new) w is = cc
@@ -41,7 +42,7 @@ pub key-write_of_record : (seq : ℕ) (r : Record) (w : Write) → write_of_reco
 key-write_of_record seq r w is = key-body_write (key_of seq r) r.body w is
 
 -- one record's write before those of later records
-list_all-step : (p : Write → Bool) (o : Option Write) (rest : List Write) → ((w : Write) → o ≡ Some w → p w ≡ true)
+pub list_all-step : (p : Write → Bool) (o : Option Write) (rest : List Write) → ((w : Write) → o ≡ Some w → p w ≡ true)
     → list_all p rest ≡ true → list_all p (option_to_list o ++ rest) ≡ true
 list_all-step p None rest here all = all
 list_all-step p (Some w) rest here all = and_from (p w) (list_all p rest) (here w refl) all

@@ -4,7 +4,7 @@ use Rattle.dt_csr.specs.declared.registers.Register.{Register}
 use Rattle.dt_csr.specs.declared.state.Csrs.{Csrs}
 use Rattle.dt_csr.specs.Access.{ChangesOnly}
 use Rattle.dt_csr.specs.Registers.{register_at}
-use Rattle.dt_csr.specs.Kept.{IsKept, NamesMode}
+use Rattle.dt_csr.specs.Kept.{AreKeptInBounds, NamesMode}
 use Rattle.dt_csr.proofs.Writes.{written_keeps, written_names, written_only, reached_named}
 use Rattle.dt_csr.proofs.access.write.Goals as goal
 
@@ -22,5 +22,5 @@ returns-in-Some-clause-mpp c = λ h.
 
 pub returns-in-Some-clause-keeps : goal.returns-in-Some-clause-keeps
 returns-in-Some-clause-keeps c = λ h.
-    let P : Csrs → Type 0 = λ d. IsKept d in
+    let P : Csrs → Type 0 = λ d. AreKeptInBounds d in
     subst P (sym c.store.ensures) (written_keeps c.args.c.now c.in-Some.register c.args.value c.ranges.value.fits h)

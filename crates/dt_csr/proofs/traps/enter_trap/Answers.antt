@@ -1,5 +1,5 @@
 use Rattle.std.proofs.Common.{ℕ, sym, ◌∙◌, subst}
-use Rattle.dt_csr.specs.Kept.{IsKept, NamesMode}
+use Rattle.dt_csr.specs.Kept.{AreKeptInBounds, NamesMode}
 use Rattle.dt_csr.proofs.Stacks.{entered_s_keeps, entered_m_keeps, in_s_mpp, in_m_mpp, mode_small, mode_named, from_s_or_u}
 use Rattle.dt_csr.proofs.traps.enter_trap.Goals as goal
 
@@ -10,7 +10,7 @@ returns-then-delegates-clause-mpp c = λ h.
 
 pub returns-then-delegates-clause-keeps : goal.returns-then-delegates-clause-keeps
 returns-then-delegates-clause-keeps c = λ h even.
-    let P : ℕ → Type 0 = λ s. IsKept (record c.args.c.now { mstatus = s; sepc = c.args.pc; scause = c.args.cause; stval = c.args.tval }) in
+    let P : ℕ → Type 0 = λ s. AreKeptInBounds (record c.args.c.now { mstatus = s; sepc = c.args.pc; scause = c.args.cause; stval = c.args.tval }) in
     subst P (sym c.status_in_s-c.ensures)
     (entered_s_keeps c.args.c.now c.args.mode c.args.pc c.args.cause c.args.tval (from_s_or_u c.args.mode c.requires c.if-mode-lt-MACHINE.true) c.ranges.pc.fits even c.ranges.cause.fits c.ranges.tval.fits h)
 
@@ -22,6 +22,6 @@ returns-else-mode-lt-MACHINE-clause-mpp c = λ _.
 
 pub returns-else-mode-lt-MACHINE-clause-keeps : goal.returns-else-mode-lt-MACHINE-clause-keeps
 returns-else-mode-lt-MACHINE-clause-keeps c = λ h even.
-    let P : ℕ → Type 0 = λ s. IsKept (record c.args.c.now { mstatus = s; mepc = c.args.pc; mcause = c.args.cause; mtval = c.args.tval }) in
+    let P : ℕ → Type 0 = λ s. AreKeptInBounds (record c.args.c.now { mstatus = s; mepc = c.args.pc; mcause = c.args.cause; mtval = c.args.tval }) in
     subst P (sym c.status_in_m-c.ensures)
     (entered_m_keeps c.args.c.now c.args.mode c.args.pc c.args.cause c.args.tval c.requires c.ranges.pc.fits even c.ranges.cause.fits c.ranges.tval.fits h)

@@ -1,5 +1,5 @@
 use Rattle.std.proofs.Common.{ℕ, arith, sym, ◌∙◌, subst}
-use Rattle.dt_csr.specs.Kept.{IsKept, NamesMode}
+use Rattle.dt_csr.specs.Kept.{AreKeptInBounds, NamesMode}
 use Rattle.dt_csr.proofs.Stacks.{mret_mpp, mret_keeps}
 use Rattle.dt_csr.proofs.traps.mret.Goals as goal
 
@@ -10,5 +10,5 @@ returns-clause-mpp c =
 
 pub returns-clause-keeps : goal.returns-clause-keeps
 returns-clause-keeps c = λ h.
-    let P : ℕ → Type 0 = λ s. IsKept (record c.args.c.now { mstatus = s }) in
+    let P : ℕ → Type 0 = λ s. AreKeptInBounds (record c.args.c.now { mstatus = s }) in
     subst P (sym c.status_after_mret-c.ensures) (mret_keeps c.args.c.now h)

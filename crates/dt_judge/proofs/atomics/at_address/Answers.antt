@@ -13,7 +13,7 @@ use Rattle.dt_record.specs.declared.origins.Sources.{Sources}
 use Rattle.dt_record.specs.Actions.{Action}
 use Rattle.dt_rules.specs.declared.misfits.Misfit.{Misfit}
 use Rattle.dt_stores.specs.Kept.{Kept}
-use Rattle.dt_stores.specs.Standing.{StandsFor as Keeps}
+use Rattle.dt_stores.specs.Standing.{StoresStand}
 use Rattle.dt_versions.specs.History.{History}
 use Rattle.dt_judge.specs.Keeping.{Remembers}
 use Rattle.dt_judge.proofs.AtomicReads.{reads_at_key, sources_stay}
@@ -36,7 +36,7 @@ read_where_allowed law h m key x (Err refused) answered = tt
 pub returns-clause-finds : goal.returns-clause-finds
 returns-clause-finds c = λ last actions moments known.
     let knows = same_knowing c.local.result.now c.args.h.now.keys c.args.m.now.writes actions moments c.args.key c.local.ensures known.knows in
-    let stores = subst (λ (k : Kept). Keeps k actions) (sym c.stores.ensures) known.stores in
+    let stores = subst (λ (k : Kept). StoresStand k actions) (sym c.stores.ensures) known.stores in
     let answer = subst (λ (r : Option (ℕ × Key)). IsAtomicAnswer (atomic_grounds c.args.m.now actions moments r) c.args.key c.args.x c.atomic.result) c.reserved.ensures (c.atomic.ensures actions moments stores knows) in
     (c.atomic.result, answer, c.with_p.ensures.value)
 
@@ -44,7 +44,7 @@ pub returns-clause-read : goal.returns-clause-read
 returns-clause-read c =
     let answered : IsAnswered c.args.h.now c.args.m.now c.args.key c.args.x c.atomic.result = λ actions moments known.
     let knows = same_knowing c.local.result.now c.args.h.now.keys c.args.m.now.writes actions moments c.args.key c.local.ensures known.knows in
-    let stores = subst (λ (k : Kept). Keeps k actions) (sym c.stores.ensures) known.stores in
+    let stores = subst (λ (k : Kept). StoresStand k actions) (sym c.stores.ensures) known.stores in
     subst (λ (r : Option (ℕ × Key)). IsAtomicAnswer (atomic_grounds c.args.m.now actions moments r) c.args.key c.args.x c.atomic.result) c.reserved.ensures (c.atomic.ensures actions moments stores knows) in
     sources_stay (Reads c.args.h.now c.args.m.now c.args.key c.args.x) c.args.p c.atomic.result c.with_p.result c.with_p.ensures.value
     (read_where_allowed c.allowed_atomics_are_exact.ensures c.args.h.now c.args.m.now c.args.key c.args.x c.atomic.result answered)

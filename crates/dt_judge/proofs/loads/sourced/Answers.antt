@@ -5,7 +5,7 @@ use Rattle.dt_local.specs.LocalMemory.{LocalMemory}
 use Rattle.dt_record.specs.declared.keys.Key.{Key}
 use Rattle.dt_record.specs.Actions.{Action}
 use Rattle.dt_stores.specs.Kept.{Kept}
-use Rattle.dt_stores.specs.Standing.{StandsFor as Keeps}
+use Rattle.dt_stores.specs.Standing.{StoresStand}
 use Rattle.dt_versions.specs.History.{History}
 use Rattle.dt_judge.specs.Keeping.{Remembers}
 use Rattle.dt_judge.proofs.Leading.{same_knowing}
@@ -16,7 +16,7 @@ use Rattle.dt_judge.proofs.loads.sourced.Goals as goal
 past : (stores : Kept) (local : LocalMemory) (h : HartView) (m : History) (key : Key) (actions : List Action) (moments : ℕ → ℕ) → stores ≡ h.stores → local.keys ≡ h.keys
     → Remembers h m key actions moments → IsPast m stores local key actions moments
 past stores local h m key actions moments same_stores same_keys known = record {
-  stores = subst (λ (k : Kept). Keeps k actions) (sym same_stores) known.stores;
+  stores = subst (λ (k : Kept). StoresStand k actions) (sym same_stores) known.stores;
   knows = same_knowing local h.keys m.writes actions moments key same_keys known.knows;
   judged = known.judged;
   in_order = known.in_order;

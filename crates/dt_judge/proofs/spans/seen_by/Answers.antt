@@ -1,6 +1,6 @@
 use Rattle.dt_judge.proofs.FirstVisible.{begin_is_first}
-use Rattle.dt_judge.proofs.LastVisible.{end_is_last}
 use Rattle.dt_judge.proofs.spans.seen_by.Goals as goal
+use Rattle.dt_loads.proofs.LastVisible.{end_is_last}
 
 pub returns-clause-value : goal.returns-clause-value
 returns-clause-value c =

@@ -1,7 +1,7 @@
 use Rattle.std.proofs.Common.{◌≡◌, ◌+◌, ◌*◌, sym, subst, inl, inr, arith}
 use Rattle.std.proofs.lemmas.Bool.{cases_lt}
+use Rattle.dt_versions.proofs.Steady.{IsSteady-later}
 use Rattle.dt_versions.specs.Words.{IsSteady}
-use Rattle.dt_refills.proofs.Stretches.{IsSteady-later}
 use Rattle.dt_refills.proofs.refilling.steady_words.Goals as goal
 
 pub loop-i-preserved : goal.loop-i-preserved

@@ -1,7 +1,8 @@
 use Rattle.std.proofs.Common.{not, nat_lt}
+use Rattle.dt_lists.proofs.Lists.{list_all-weaker}
 use Rattle.dt_record.specs.declared.writes.Write.{Write}
 use Rattle.dt_core.specs.Marks.{is_below}
-use Rattle.dt_settled.proofs.Orders.{list_all-weaker, later-than}
+use Rattle.dt_settled.proofs.Orders.{later-than}
 use Rattle.dt_settled.proofs.laws.early_writes_have_settled.Goals as goal
 
 pub returns : goal.returns

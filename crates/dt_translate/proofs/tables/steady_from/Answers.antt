@@ -1,8 +1,8 @@
 use Rattle.std.proofs.Common.{◌≡◌, ◌<◌, get_or, length, ap, ◌∙◌, sym, subst, inl, inr, arith}
 use Rattle.std.proofs.lemmas.Bool.{cases_lt}
 use Rattle.std.proofs.lemmas.List.{get_or_default}
+use Rattle.dt_versions.proofs.Steady.{IsSteady-later}
 use Rattle.dt_versions.specs.Words.{IsSteady}
-use Rattle.dt_translate.proofs.Steadiness.{IsSteady-later}
 use Rattle.dt_translate.proofs.tables.steady_from.Goals as goal
 
 pub loop-addr-preserved : goal.loop-addr-preserved

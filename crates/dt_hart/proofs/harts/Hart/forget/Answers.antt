@@ -3,7 +3,7 @@ use Rattle.dt_local.specs.LocalMemory.{LocalMemory}
 use Rattle.dt_stores.specs.Kept.{Kept}
 use Rattle.dt_windows.specs.Kept.{WindowsView}
 use Rattle.dt_hart.specs.HartView.{HartView}
-use Rattle.dt_hart.specs.Standing.{StandsFor}
+use Rattle.dt_hart.specs.Standing.{HartStands}
 use Rattle.dt_hart.proofs.GoingOn.{kept}
 use Rattle.dt_hart.proofs.MarksOn.{alike_stands}
 use Rattle.dt_hart.proofs.harts.Hart.forget.Goals as goal
@@ -27,4 +27,4 @@ returns-clause-stands c = λ s stands.
       all = ap (λ (w : WindowsView). w.all) c.forget-3.ensures;
       pages = ap (λ (w : WindowsView). w.pages) c.forget-3.ensures;
     })
-    (subst (λ (v : HartView). StandsFor v s) (sym c.self.view_is) stands)
+    (subst (λ (v : HartView). HartStands v s) (sym c.self.view_is) stands)

@@ -4,7 +4,7 @@ use Rattle.dt_reference.specs.HartActions.{action_of}
 use Rattle.dt_hart.specs.Counting.{IsCounted}
 use Rattle.dt_hart.specs.HartView.{HartView}
 use Rattle.dt_hart.specs.Marks.{KeepsMarks}
-use Rattle.dt_hart.specs.Standing.{StandsFor}
+use Rattle.dt_hart.specs.Standing.{HartStands}
 use Rattle.dt_hart.specs.Taking.{is_placed}
 use Rattle.dt_hart.proofs.Counted.{counts_later}
 use Rattle.dt_hart.proofs.GoingOn.{Laws, goes_on, kept}
@@ -25,7 +25,7 @@ returns-clause-goes_on c = λ s moment stands g known.
     c.self.inside.reserved c.reserved_by-self-inside.result c.self.inside.windows c.take_effects.new.windows c.args.event.now c.args.sources
     (subst (λ (v : HartView). IsTrue (is_placed (action_of v.seq c.args.event.now))) (sym c.self.view_is) c.requires.placed)
     c.advance.ensures.state c.in_ok-take_effects.ensures.follows c.reserved_by-self-inside.ensures c.in_ok-take_effects.ensures.fences s moment
-    (subst (λ (v : HartView). StandsFor v s) (sym c.self.view_is) stands) g known
+    (subst (λ (v : HartView). HartStands v s) (sym c.self.view_is) stands) g known
 
 pub returns-clause-number : goal.returns-clause-number
 returns-clause-number c =
