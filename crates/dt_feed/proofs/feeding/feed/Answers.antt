@@ -1,4 +1,4 @@
-use Rattle.dt_feed.proofs.Parts.{gave_ends, gave_up}
+use Rattle.dt_feed.proofs.Parts.{gave_up}
 use Rattle.dt_feed.proofs.feeding.feed.Goals as goal
 
 pub returns-in-Refused-clause-fed : goal.returns-in-Refused-clause-fed

@@ -1,7 +1,7 @@
-use Rattle.std.proofs.Common.{ap, Some, [], ◌∷◌, subst, sym, rules, refl, arith, ◌∙◌}
+use Rattle.std.proofs.Common.{[], ◌∷◌, subst, sym, rules, refl, arith, ◌∙◌}
 use Rattle.dt_feed.specs.Feeding.{AreFed, one_at}
-use Rattle.dt_reading.proofs.Underway.{at_end, has_begun, record_hart, refused}
-use Rattle.dt_feed.proofs.Parts.{feeding-starts, feeding-more, none_more}
+use Rattle.dt_reading.proofs.Underway.{at_end, refused}
+use Rattle.dt_feed.proofs.Parts.{feeding-starts, feeding-more}
 use Rattle.dt_feed.proofs.feeding.feed_records.Goals as goal
 
 pub loop-init : goal.loop-init
