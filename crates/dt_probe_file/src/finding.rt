@@ -1,6 +1,6 @@
-ghost use Rattle.std.specs.Prelude.{◌≡◌, ◌≢◌, ◌≤◌, None, Some};
+ghost use Rattle.std.specs.Prelude.{◌≡◌, ◌≢◌, ◌≤◌, ◌⊎◌, None, Some};
 ghost use Rattle.dt_source.specs.Faults.{Rose};
-ghost use Rattle.dt_probe_file.specs.Asking.{HadToRead};
+ghost use Rattle.dt_probe_file.specs.Asking.{LeaveOpen, HadToRead};
 ghost use Rattle.dt_probe_file.specs.Fronts.{IsSound, reading_of};
 ghost use Rattle.dt_probe_file.specs.Found.{IsFound, IsHeard};
 ghost use Rattle.dt_probe_file.specs.Parts.{ReadsOn, whole};
@@ -48,6 +48,7 @@ pub(crate) fn hear<S: Source>(source: &mut S, held: &mut Held) -> Heard
     ensures fault { result ≡ Heard.Failed → Rose (S.faults source.old) (S.faults source.new) }
     ensures quiet { result ≢ Heard.Failed → S.faults source.new ≡ S.faults source.old }
     ensures needed { result ≡ Heard.Failed → HadToRead None held.old (S.left source.old) (S.left source.new) }
+    ensures idle { ((source.new ≡ source.old) × (held.new ≡ held.old)) ⊎ LeaveOpen None held.old }
     ensures never_falls { S.faults source.old ≤ S.faults source.new }
     ensures same_lent { S.lent source.new ≡ S.lent source.old }
 {
@@ -84,6 +85,7 @@ pub(crate) fn find<S: Source>(source: &mut S, held: &mut Held, opened: &Opened) 
     ensures fault { result ≡ Found.Failed → Rose (S.faults source.old) (S.faults source.new) }
     ensures quiet { result ≢ Found.Failed → S.faults source.new ≡ S.faults source.old }
     ensures needed { result ≡ Found.Failed → HadToRead (Some opened.now) held.old (S.left source.old) (S.left source.new) }
+    ensures idle { ((source.new ≡ source.old) × (held.new ≡ held.old)) ⊎ LeaveOpen (Some opened.now) held.old }
     ensures never_falls { S.faults source.old ≤ S.faults source.new }
     ensures same_lent { S.lent source.new ≡ S.lent source.old }
 {

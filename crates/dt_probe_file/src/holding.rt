@@ -72,12 +72,15 @@ fn read_on<S: Source>(
     requires few { end.old < start.old + 1024 }
     ensures order { start.new ≤ end.new }
     ensures within { end.new ≤ 4096 }
-    ensures whole { whole (part start.new end.new bytes.new) (S.left source.new) ≡ whole (part start.old end.old bytes.old) (S.left source.old) }
+    ensures whole { whole (part start.new end.new bytes.new) (S.left source.new)
+        ≡ whole (part start.old end.old bytes.old) (S.left source.old) }
     ensures reads { ReadsOn (part start.old end.old bytes.old) (S.left source.old) (part start.new end.new bytes.new) (S.left source.new) }
     ensures more { result ≡ Ok true → end.old - start.old < end.new - start.new }
-    ensures end { result ≡ Ok false → (part start.new end.new bytes.new ≡ part start.old end.old bytes.old) × IfSome (S.left source.new) (λ rest. rest ≡ []) }
+    ensures end { result ≡ Ok false → (part start.new end.new bytes.new ≡ part start.old end.old bytes.old)
+        × IfSome (S.left source.new) (λ rest. rest ≡ []) }
     ensures failed_only { OnErr result (Rose (S.faults source.old) (S.faults source.new)) }
-    ensures failed_stays { OnErr result ((part start.new end.new bytes.new ≡ part start.old end.old bytes.old) × (S.left source.new ≡ S.left source.old)) }
+    ensures failed_stays { OnErr result ((part start.new end.new bytes.new ≡ part start.old end.old bytes.old)
+        × (S.left source.new ≡ S.left source.old)) }
     ensures quiet { OnOk result (S.faults source.new ≡ S.faults source.old) }
     ensures never_falls { S.faults source.old ≤ S.faults source.new }
     ensures same_lent { S.lent source.new ≡ S.lent source.old }

@@ -1,8 +1,8 @@
-ghost use Rattle.std.specs.Prelude.{◌≡◌, ◌≢◌, ◌≤◌, ◌↔◌, None, [], IfOk, IsTrue, IsSome, IsNone};
+ghost use Rattle.std.specs.Prelude.{◌≡◌, ◌≢◌, ◌≤◌, ◌⊎◌, ◌↔◌, None, [], IfOk, IsTrue, IsSome, IsNone};
 ghost use Rattle.std.specs.Option.{ForSome};
 ghost use Rattle.dt_record.specs.Streams.{Continues, TakesAnswer, Rose, IsFresh};
 ghost use Rattle.dt_record.specs.declared.streams.Next.{Next};
-ghost use Rattle.dt_probe_file.specs.Asking.{HadToRead};
+ghost use Rattle.dt_probe_file.specs.Asking.{LeaveOpen, HadToRead};
 ghost use Rattle.dt_probe_file.specs.Fronts.{IsSound};
 ghost use Rattle.dt_probe_file.specs.Parts.{whole};
 ghost use Rattle.dt_probe_file.specs.Progress.{ended_by, progress_of};
@@ -122,6 +122,7 @@ impl<S: Source> Probes for FileProbes<S> {
             → ⟦<FileProbes<S> as Probes>⟧.faults self.new ≡ ⟦<FileProbes<S> as Probes>⟧.faults self.old }
         ensures needed { result ≡ Next.ReadFault → HadToRead (opened_in self.old) (held_in self.old)
             (S.left (source_of self.old)) (S.left (source_of self.new)) }
+        ensures idle { (source_of self.new ≡ source_of self.old) ⊎ LeaveOpen (opened_in self.old) (held_in self.old) }
         ensures no_want { result ≢ Next.OutOfMemory }
         ensures same_lent { ⟦<FileProbes<S> as Probes>⟧.lent self.new ≡ ⟦<FileProbes<S> as Probes>⟧.lent self.old }
     {

@@ -1,7 +1,7 @@
-ghost use Rattle.std.specs.Prelude.{◌≡◌, ◌≢◌, ◌<◌, ◌≤◌, ◌++◌, ℕ, List, [], true, false, None, Some, IfSome, OnErr, OnOk, length};
+ghost use Rattle.std.specs.Prelude.{◌≡◌, ◌≢◌, ◌<◌, ◌≤◌, ◌⊎◌, ◌++◌, ℕ, List, [], true, false, None, Some, IfSome, OnErr, OnOk, length};
 ghost use Rattle.dt_record.specs.Spelling.{end_bytes};
 ghost use Rattle.dt_record.specs.Streams.{Continues, Rose};
-ghost use Rattle.dt_probe_file.specs.Asking.{HadToRead};
+ghost use Rattle.dt_probe_file.specs.Asking.{LeaveOpen, HadToRead};
 ghost use Rattle.dt_probe_file.specs.declared.fronts.Front.TheVariants as fronts;
 ghost use Rattle.dt_probe_file.specs.Fronts.{IsSound, IsFront, reading_of};
 ghost use Rattle.dt_probe_file.specs.Parts.{whole};
@@ -27,7 +27,8 @@ pub(crate) struct Step {
 fn step_over(held: &mut Held, opened: &Opened, event: &Record, len: usize) -> Step
     requires sound { IsSound opened.now }
     requires front { IsFront (reading_of opened.now) held.old (fronts.Event event.now len) }
-    ensures told { (rest : List ℕ) → Takes (Some opened.now) (Some (held.old ++ rest)) result.answer result.opened (Some (held.new ++ rest)) }
+    ensures told { (rest : List ℕ)
+        → Takes (Some opened.now) (Some (held.old ++ rest)) result.answer result.opened (Some (held.new ++ rest)) }
     ensures step { Continues (progress_of (Some opened.now) None) result.answer (progress_of result.opened (ended_by result.answer)) }
     ensures sound { IfSome result.opened IsSound }
     ensures no_fault { result.answer ≢ Next.ReadFault }
@@ -60,6 +61,7 @@ fn is_more<S: Source>(source: &mut S, held: &mut Held) -> Result<bool, Failed>
     ensures quiet { OnOk result (S.faults source.new ≡ S.faults source.old) }
     ensures fault { OnErr result (Rose (S.faults source.old) (S.faults source.new)) }
     ensures needed { OnErr result ((held.old ≡ []) × (S.left source.new ≡ S.left source.old)) }
+    ensures idle { (source.new ≡ source.old) ⊎ (held.old ≡ []) }
     ensures never_falls { S.faults source.old ≤ S.faults source.new }
     ensures same_lent { S.lent source.new ≡ S.lent source.old }
 {
@@ -74,12 +76,15 @@ fn is_more<S: Source>(source: &mut S, held: &mut Held) -> Result<bool, Failed>
 fn step_end<S: Source>(source: &mut S, held: &mut Held, opened: &Opened) -> Step
     requires sound { IsSound opened.now }
     requires front { IsFront (reading_of opened.now) held.old fronts.End }
-    ensures told { Takes (Some opened.now) (whole held.old (S.left source.old)) result.answer result.opened (whole held.new (S.left source.new)) }
+    ensures told { Takes (Some opened.now) (whole held.old (S.left source.old)) result.answer
+        result.opened (whole held.new (S.left source.new)) }
     ensures step { Continues (progress_of (Some opened.now) None) result.answer (progress_of result.opened (ended_by result.answer)) }
     ensures sound { IfSome result.opened IsSound }
     ensures quiet { result.answer ≢ Next.ReadFault → S.faults source.new ≡ S.faults source.old }
     ensures fault { result.answer ≡ Next.ReadFault → Rose (S.faults source.old) (S.faults source.new) }
-    ensures needed { result.answer ≡ Next.ReadFault → (held.old ≡ end_bytes opened.now.events) × (S.left source.new ≡ S.left source.old) }
+    ensures needed { result.answer ≡ Next.ReadFault
+        → (held.old ≡ end_bytes opened.now.events) × (S.left source.new ≡ S.left source.old) }
+    ensures idle { (source.new ≡ source.old) ⊎ (held.old ≡ end_bytes opened.now.events) }
     ensures no_want { result.answer ≢ Next.OutOfMemory }
     ensures never_falls { S.faults source.old ≤ S.faults source.new }
     ensures same_lent { S.lent source.new ≡ S.lent source.old }
@@ -108,12 +113,15 @@ fn step_end<S: Source>(source: &mut S, held: &mut Held, opened: &Opened) -> Step
 /// The next answer behind the header.
 pub(crate) fn step_behind<S: Source>(source: &mut S, held: &mut Held, opened: &Opened) -> Step
     requires { IsSound opened.now }
-    ensures told { Takes (Some opened.now) (whole held.old (S.left source.old)) result.answer result.opened (whole held.new (S.left source.new)) }
+    ensures told { Takes (Some opened.now) (whole held.old (S.left source.old)) result.answer
+        result.opened (whole held.new (S.left source.new)) }
     ensures step { Continues (progress_of (Some opened.now) None) result.answer (progress_of result.opened (ended_by result.answer)) }
     ensures sound { IfSome result.opened IsSound }
     ensures quiet { result.answer ≢ Next.ReadFault → S.faults source.new ≡ S.faults source.old }
     ensures fault { result.answer ≡ Next.ReadFault → Rose (S.faults source.old) (S.faults source.new) }
-    ensures needed { result.answer ≡ Next.ReadFault → HadToRead (Some opened.now) held.old (S.left source.old) (S.left source.new) }
+    ensures needed { result.answer ≡ Next.ReadFault
+        → HadToRead (Some opened.now) held.old (S.left source.old) (S.left source.new) }
+    ensures idle { (source.new ≡ source.old) ⊎ LeaveOpen (Some opened.now) held.old }
     ensures no_want { result.answer ≢ Next.OutOfMemory }
     ensures never_falls { S.faults source.old ≤ S.faults source.new }
     ensures same_lent { S.lent source.new ≡ S.lent source.old }
@@ -140,6 +148,7 @@ pub(crate) fn step_header<S: Source>(source: &mut S, held: &mut Held) -> Step
     ensures quiet { result.answer ≢ Next.ReadFault → S.faults source.new ≡ S.faults source.old }
     ensures fault { result.answer ≡ Next.ReadFault → Rose (S.faults source.old) (S.faults source.new) }
     ensures needed { result.answer ≡ Next.ReadFault → HadToRead None held.old (S.left source.old) (S.left source.new) }
+    ensures idle { (source.new ≡ source.old) ⊎ LeaveOpen None held.old }
     ensures no_want { result.answer ≢ Next.OutOfMemory }
     ensures never_falls { S.faults source.old ≤ S.faults source.new }
     ensures same_lent { S.lent source.new ≡ S.lent source.old }

@@ -1,4 +1,5 @@
-use Rattle.std.proofs.Common.{◌≡◌, ◌-◌, length}
+use Rattle.std.proofs.Common.{◌≡◌, ◌⊎◌, ◌-◌, Some, length}
+use Rattle.dt_probe_file.specs.Asking.{LeaveOpen}
 use Rattle.dt_probe_file.specs.Parts.{ReadsOn, whole}
 use Rattle.dt_probe_file.proofs.finding.find.Given as goal
 
@@ -9,6 +10,7 @@ invariant-loop-event g l =
     record {
       whole : whole l.held (left l.source) ≡ whole l.fn.held (left l.fn.source);
       reads : ReadsOn l.fn.held (left l.fn.source) l.held (left l.source);
+      idle : ((l.source ≡ l.fn.source) × (l.held ≡ l.fn.held)) ⊎ LeaveOpen (Some l.fn.opened) l.fn.held;
       quiet : g.S.Source.faults l.source ≡ g.S.Source.faults l.fn.source;
       same_lent : g.S.Source.lent l.source ≡ g.S.Source.lent l.fn.source;
     }
