@@ -37,7 +37,8 @@ pub fn drains(
     seq: u32,
 ) -> Result<(), Misfit>
     ensures checks { (actions : List Action) → StoresStand s.now actions → result ≡ drain_check actions line mask count bytes.now seq }
-    ensures took { IsOk result → (actions : List Action) → StoresStand s.now actions → drain_answer actions line count ≡ DrainAnswer.Took mask bytes.now }
+    ensures took { IsOk result → (actions : List Action) → StoresStand s.now actions
+        → drain_answer actions line count ≡ DrainAnswer.Took mask bytes.now }
 {
     is_answer(s.would_drain(line, count), mask, count, bytes, seq)
 }

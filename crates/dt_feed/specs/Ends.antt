@@ -15,7 +15,8 @@ use Rattle.dt_feed.specs.Feeding.{IsFeeding, feed_end}
 
 -- What was taken begins the hart's records among those that were given; and where the end of the feed was popped, all records of the
 -- stream were given, all of the hart's were taken, and nothing is left.
-pub record HasTaken (told : Option (List Next)) (p : Progress) (harts : ℕ) (wide : Bool) (given : List Record) (hart : ℕ) (ended : Bool) (taken left : List Record) : Type 0 where
+pub record HasTaken (told : Option (List Next)) (p : Progress) (harts : ℕ) (wide : Bool) (given : List Record) (hart : ℕ) (ended : Bool)
+    (taken left : List Record) : Type 0 where
   pub begins : IsPrefix taken (records_of hart given)
   pub all : ended ≡ true → HasCome told p harts wide given × (taken ≡ records_of hart given) × (left ≡ [])
 

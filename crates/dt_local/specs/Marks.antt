@@ -33,5 +33,7 @@ pub record KeepsMarks (old new : LocalMemory) : Type 0 where
 -- A mark that is undone to, and each earlier one, stays live and stands for the same keys; so
 -- does one before which all is forgotten, and each later one.
 pub record MarksStayLive : Type 0 where
-  pub undone_to : (l : LocalMemory) (to m : Mark) → IsLive l to → IsLive l m → m.at ≤ to.at → IsLive (undone l to) m × (keys_at (undone l to) m ≡ keys_at l m)
-  pub forgotten_before : (l : LocalMemory) (to m : Mark) → IsLive l to → IsLive l m → to.at ≤ m.at → IsLive (forgotten l to) m × (keys_at (forgotten l to) m ≡ keys_at l m)
+  pub undone_to : (l : LocalMemory) (to m : Mark) → IsLive l to → IsLive l m → m.at ≤ to.at
+      → IsLive (undone l to) m × (keys_at (undone l to) m ≡ keys_at l m)
+  pub forgotten_before : (l : LocalMemory) (to m : Mark) → IsLive l to → IsLive l m → to.at ≤ m.at
+      → IsLive (forgotten l to) m × (keys_at (forgotten l to) m ≡ keys_at l m)

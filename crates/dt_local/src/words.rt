@@ -54,7 +54,8 @@ pub fn raise_all(
     requires words { AreWords slots.old }
     requires room { HasRoom slots.old line mask }
     requires spare { HasSpare steps.old 8 }
-    ensures raised { (addr : ℕ) → slot_key slots.new.entries addr ≡ greater (slot_key slots.old.entries addr) (noted_key line mask keys.now addr) }
+    ensures raised { (addr : ℕ) → slot_key slots.new.entries addr
+        ≡ greater (slot_key slots.old.entries addr) (noted_key line mask keys.now addr) }
     ensures stepped { IsStepped slots.old.entries slots.new.entries steps.old steps.new 8 }
     ensures words { AreWords slots.new }
 {
@@ -78,7 +79,8 @@ fn raise_word(
     requires words { AreWords slots.old }
     requires room { IsSome (get nat_cmp slots.old word) }
     requires spare { HasSpare steps.old 1 }
-    ensures raised { (addr : ℕ) → slot_key slots.new.entries addr ≡ greater (slot_key slots.old.entries addr) (if addr / 8 == word then noted_in mask keys.now (8 * place + addr % 8) else None) }
+    ensures raised { (addr : ℕ) → slot_key slots.new.entries addr
+        ≡ greater (slot_key slots.old.entries addr) (if addr / 8 == word then noted_in mask keys.now (8 * place + addr % 8) else None) }
     ensures stepped { IsStepped slots.old.entries slots.new.entries steps.old steps.new 1 }
     ensures words { AreWords slots.new }
 {

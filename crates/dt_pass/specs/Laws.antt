@@ -29,7 +29,8 @@ pub record FailsAt (image : List ℕ) (wide : Bool) (records : List Record) (har
 
 -- where the verdict is Pass, all records of every hart are allowed
 abbrev pub PassIsAllAllowed : Type 0
-PassIsAllAllowed = (image : List ℕ) (wide : Bool) (harts : ℕ) (records : List Record) (checked : Checked) → IsChecked image wide harts records checked
+PassIsAllAllowed = (image : List ℕ) (wide : Bool) (harts : ℕ) (records : List Record) (checked : Checked)
+    → IsChecked image wide harts records checked
     → checked.verdict ≡ Pass → (hart : ℕ) → hart < harts → AllAllowed image wide records hart
 
 -- a hart with all records allowed, or a failure with no key below this one's
@@ -46,7 +47,8 @@ pub record IsFirstFailure (image : List ℕ) (wide : Bool) (harts : ℕ) (record
 
 -- where the verdict is Fail, it names the first failure
 abbrev pub FailIsFirst : Type 0
-FailIsFirst = (image : List ℕ) (wide : Bool) (harts : ℕ) (records : List Record) (checked : Checked) (f : Failure) → IsChecked image wide harts records checked
+FailIsFirst = (image : List ℕ) (wide : Bool) (harts : ℕ) (records : List Record) (checked : Checked) (f : Failure)
+    → IsChecked image wide harts records checked
     → checked.verdict ≡ Fail f → IsFirstFailure image wide harts records f
 
 -- the records of a file have one check over an image

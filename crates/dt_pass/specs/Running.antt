@@ -18,7 +18,8 @@ pub record IsRunOf (held : History) (wide : Bool) (hart : ℕ) (records : List R
   pub notes_are : notes ≡ notes_of records run
 
 -- what came of the records of the first harts
-pub record AreRunsOf (held : History) (wide : Bool) (harts : ℕ) (records : List Record) (outcomes : List Outcome) (notes : List Noted) : Type 0 where
+pub record AreRunsOf (held : History) (wide : Bool) (harts : ℕ) (records : List Record) (outcomes : List Outcome)
+    (notes : List Noted) : Type 0 where
   pub runs : List AllowedRun
   pub are_runs : AreRuns held.image wide harts records runs
   pub outcomes_are : outcomes ≡ map (outcome_of records) runs

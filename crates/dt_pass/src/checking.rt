@@ -27,7 +27,8 @@ pub fn pass<P: Probes>(alloc: Global, image: &Image, probes: &mut P) -> Result<C
     requires { IsFresh (P.progress probes.old) }
     ensures checked { IfOk result (λ checked. IsCheckOf image.now (P.left probes.old) (P.progress probes.new) checked) }
     ensures accepted { OnOk result (IfSome (P.left probes.old) (λ answers. refusal_in answers ≡ None)) }
-    ensures refused { IfErr result (λ r. r ≢ refusal.ReadFault → r ≢ refusal.OutOfMemory → IfSome (P.left probes.old) (λ answers. refusal_in answers ≡ Some r)) }
+    ensures refused { IfErr result (λ r. r ≢ refusal.ReadFault → r ≢ refusal.OutOfMemory
+        → IfSome (P.left probes.old) (λ answers. refusal_in answers ≡ Some r)) }
     ensures refused_at { IfErr result (λ r. IsRefusedAt (P.progress probes.new) r) }
     ensures fault { result ≡ Err refusal.ReadFault → Rose (P.faults probes.old) (P.faults probes.new) }
     ensures never_falls { P.faults probes.old ≤ P.faults probes.new }
@@ -125,7 +126,8 @@ fn tallied(
 ) -> Result<Tallies, AllocError>
     requires few_harts { harts ≤ 8 }
     requires few_records { length records.now ≤ 4194304 }
-    ensures counts { IfOk result (λ tallies. tallies.harts ≡ map (λ hart. counts_of limit (records_of hart records.now)) (range_with_len 0 harts)) }
+    ensures counts { IfOk result (λ tallies. tallies.harts
+        ≡ map (λ hart. counts_of limit (records_of hart records.now)) (range_with_len 0 harts)) }
     ensures notes { IfOk result (λ tallies. tallies.notes ≡ named_notes limit notes.items) }
 {
     let harts = counted(alloc, harts, records, limit)?;

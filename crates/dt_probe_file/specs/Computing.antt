@@ -35,8 +35,10 @@ fits_body (Regs pc x) = nat_lt pc (2 ^ 64) && fit_list 31 (2 ^ 64) x
 fits_body (Csrs mode v) = nat_lt mode (2 ^ 8) && fit_list 17 (2 ^ 64) v
 fits_body (Load retire at paddr) = fits_retire retire && (nat_lt at (2 ^ 64) && nat_lt paddr (2 ^ 64))
 fits_body (Store pc bits paddr value) = nat_lt pc (2 ^ 64) && (nat_lt bits (2 ^ 32) && (nat_lt paddr (2 ^ 64) && nat_lt value (2 ^ 64)))
-fits_body (Atomic retire paddr width wrote new) = fits_retire retire && (nat_lt paddr (2 ^ 64) && (nat_lt width (2 ^ 8) && nat_lt new (2 ^ 64)))
-fits_body (Drain line mask count bytes) = nat_lt line (2 ^ 64) && (nat_lt mask (2 ^ 64) && (nat_lt count (2 ^ 16) && fit_list 64 (2 ^ 8) bytes))
+fits_body (Atomic retire paddr width wrote new) =
+    fits_retire retire && (nat_lt paddr (2 ^ 64) && (nat_lt width (2 ^ 8) && nat_lt new (2 ^ 64)))
+fits_body (Drain line mask count bytes) =
+    nat_lt line (2 ^ 64) && (nat_lt mask (2 ^ 64) && (nat_lt count (2 ^ 16) && fit_list 64 (2 ^ 8) bytes))
 fits_body (Refill line bytes) = nat_lt line (2 ^ 64) && fit_list 64 (2 ^ 8) bytes
 fits_body Beat = true
 
@@ -56,7 +58,8 @@ front s bytes = proposed s.version s.last bytes
 -- whether the bytes go on with this record and then with the rest
 unfoldable pub goes_on : Reading → List ℕ → Record → List ℕ → Bool
 goes_on s bytes r rest =
-    fits_record r && (is_lawful r && (nat_lt r.hart s.harts && (nat_le (s.last r.hart) r.stamp && bytes_eq bytes (spelled_next s r ++ rest))))
+    fits_record r
+    && (is_lawful r && (nat_lt r.hart s.harts && (nat_le (s.last r.hart) r.stamp && bytes_eq bytes (spelled_next s r ++ rest))))
 
 -- ---- the answers
 

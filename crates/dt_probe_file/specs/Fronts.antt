@@ -63,7 +63,8 @@ IsCutRecord spelling.Two bytes = IsUnfinished bytes
 -- what the answer to bytes as a record tells
 abbrev pub IsDecoded : spelling.Version → (ℕ → ℕ) → List ℕ → Decoded → Type 0
 IsDecoded version last bytes (Got r len) =
-    IsRead version last bytes r (drop len bytes) × (len ≡ length (record_bytes version (last r.hart) r)) × (len ≤ 1024) × (len ≤ length bytes)
+    IsRead version last bytes r (drop len bytes) × (len ≡ length (record_bytes version (last r.hart) r)) × (len ≤ 1024)
+    × (len ≤ length bytes)
 IsDecoded version last bytes Short = LacksRecord version last bytes × (length bytes < 1024) × IsCutRecord version bytes
 IsDecoded version last bytes (Bad at) = (more : List ℕ) → LacksRecord version last (bytes ++ more)
 

@@ -21,7 +21,8 @@ pub fn read_header<P: Probes>(probes: &mut P) -> Result<StreamHeader, Refusal>
     requires { IsFresh (P.progress probes.old) }
     ensures behind { IfOk result (λ header. IsBehindHeader header.harts header.wide (P.progress probes.new)) }
     ensures told { IfOk result (λ header. P.left probes.old ≡ with_header header.harts header.wide (P.left probes.new)) }
-    ensures refused { IfErr result (λ r. r ≢ refusal.ReadFault → r ≢ refusal.OutOfMemory → IfSome (P.left probes.old) (λ answers. refusal_in answers ≡ Some r)) }
+    ensures refused { IfErr result (λ r. r ≢ refusal.ReadFault → r ≢ refusal.OutOfMemory
+        → IfSome (P.left probes.old) (λ answers. refusal_in answers ≡ Some r)) }
     ensures refused_at { IfErr result (λ r. IsRefusedAt (P.progress probes.new) r) }
     ensures fault { result ≡ Err refusal.ReadFault → Rose (P.faults probes.old) (P.faults probes.new) }
     ensures quiet { result ≢ Err refusal.ReadFault → P.faults probes.new ≡ P.faults probes.old }

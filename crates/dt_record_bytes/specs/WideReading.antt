@@ -43,7 +43,8 @@ parts body wrote_byte rest = (body, wrote_byte, rest)
 
 unfoldable pub read_trap : List ℕ → Parts
 read_trap bytes =
-    with_double bytes (λ pc a. with_word a (λ bits b. with_double b (λ cause c. with_double c (λ tval d. parts (Trap pc bits cause tval) 0 d))))
+    with_double bytes (λ pc a. with_word a (λ bits b. with_double b (λ cause c.
+    with_double c (λ tval d. parts (Trap pc bits cause tval) 0 d))))
 
 unfoldable pub read_regs : List ℕ → Parts
 read_regs bytes = with_double bytes (λ pc a. with_doubles 31 a (λ x b. parts (Regs pc x) 0 b))
@@ -56,15 +57,18 @@ read_load bytes = with_retire bytes (λ r a. with_double a (λ at b. with_double
 
 unfoldable pub read_store : List ℕ → Parts
 read_store bytes =
-    with_double bytes (λ pc a. with_word a (λ bits b. with_double b (λ paddr c. with_double c (λ value d. parts (Store pc bits paddr value) 0 d))))
+    with_double bytes (λ pc a. with_word a (λ bits b. with_double b (λ paddr c.
+    with_double c (λ value d. parts (Store pc bits paddr value) 0 d))))
 
 unfoldable pub read_atomic : List ℕ → Parts
 read_atomic bytes =
-    with_retire bytes (λ r a. with_double a (λ paddr b. with_byte b (λ width c. with_byte c (λ w d. with_double d (λ new e. parts (Atomic r paddr width (not (w == 0)) new) w e)))))
+    with_retire bytes (λ r a. with_double a (λ paddr b. with_byte b (λ width c. with_byte c (λ w d.
+    with_double d (λ new e. parts (Atomic r paddr width (not (w == 0)) new) w e)))))
 
 unfoldable pub read_drain : List ℕ → Parts
 read_drain bytes =
-    with_double bytes (λ line a. with_double a (λ mask b. with_half b (λ count c. with_line c (λ xs d. parts (Drain line mask count xs) 0 d))))
+    with_double bytes (λ line a. with_double a (λ mask b. with_half b (λ count c.
+    with_line c (λ xs d. parts (Drain line mask count xs) 0 d))))
 
 unfoldable pub read_refill : List ℕ → Parts
 read_refill bytes = with_double bytes (λ line a. with_line a (λ xs b. parts (Refill line xs) 0 b))

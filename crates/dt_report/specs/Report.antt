@@ -20,7 +20,8 @@ use Rattle.dt_report.specs.Runs.{sources_text}
 -- where and why a check fails
 unfoldable pub failed_text : Failure → List ℕ
 failed_text f =
-    codes "FAIL" ++ decimal_field (codes "stamp") f.key.stamp ++ decimal_field (codes "hart") f.key.hart ++ decimal_field (codes "seq") f.key.seq
+    codes "FAIL" ++ decimal_field (codes "stamp") f.key.stamp ++ decimal_field (codes "hart") f.key.hart
+    ++ decimal_field (codes "seq") f.key.seq
     ++ decimal_field (codes "reason") (reason_number f.reason) ++ codes " " ++ reason_name f.reason
 
 -- the first line: the verdict
@@ -78,7 +79,8 @@ letter_text here letter = if here then letter else []
 abbrev pub letters_text : Letters → List ℕ
 letters_text letters =
     if has_letter letters then (letter_text letters.l (codes "L") ++ letter_text letters.s (codes "S") ++ letter_text letters.p (codes "P")
-    ++ letter_text letters.i (codes "I") ++ letter_text letters.d (codes "D") ++ letter_text letters.c (codes "C") ++ letter_text letters.z (codes "Z"))
+    ++ letter_text letters.i (codes "I") ++ letter_text letters.d (codes "D") ++ letter_text letters.c (codes "C")
+    ++ letter_text letters.z (codes "Z"))
     else codes "-"
 
 -- the line of a record: its key, the rules that settled its departures, and where its bytes come from

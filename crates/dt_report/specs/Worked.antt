@@ -17,9 +17,11 @@ pub one_run : runs_from 0 (eight (Write (key 10 0 5))) ≡ run 0 7 (Write (key 1
 one_run = refl
 
 -- a store over the low half of a double word
-pub two_runs : runs_from 0 (Store 2 ∷ Store 2 ∷ Store 2 ∷ Store 2 ∷ Image ∷ Image ∷ Image ∷ Image ∷ []) ≡ run 0 3 (Store 2) ∷ run 4 7 Image ∷ []
+pub two_runs : runs_from 0 (Store 2 ∷ Store 2 ∷ Store 2 ∷ Store 2 ∷ Image ∷ Image ∷ Image ∷ Image ∷ [])
+    ≡ run 0 3 (Store 2) ∷ run 4 7 Image ∷ []
 two_runs = refl
 
 -- what comes back later is a run of its own
-pub runs_are_adjacent : runs_from 0 (Image ∷ Write (key 10 0 5) ∷ Image ∷ Image ∷ []) ≡ run 0 0 Image ∷ run 1 1 (Write (key 10 0 5)) ∷ run 2 3 Image ∷ []
+pub runs_are_adjacent : runs_from 0 (Image ∷ Write (key 10 0 5) ∷ Image ∷ Image ∷ [])
+    ≡ run 0 0 Image ∷ run 1 1 (Write (key 10 0 5)) ∷ run 2 3 Image ∷ []
 runs_are_adjacent = refl

@@ -138,7 +138,8 @@ number numbers i = slice_index numbers i
 
 abbrev pub retire_at : List ℕ → Option Retire
 retire_at numbers =
-    option_and_then (λ bits. Some (record { pc = number numbers 0; bits = bits; value = number numbers 2 })) (below (2 ^ 32) (number numbers 1))
+    option_and_then (λ bits. Some (record { pc = number numbers 0; bits = bits; value = number numbers 2 }))
+    (below (2 ^ 32) (number numbers 1))
 
 abbrev pub atomic_at : List ℕ → Option Body
 atomic_at numbers =
@@ -150,16 +151,20 @@ atomic_at numbers =
 abbrev pub body_at : Kind → List ℕ → List ℕ → Option Body
 body_at kinds.Commit numbers line = option_and_then (λ retire. Some (bodies.Commit retire)) (retire_at numbers)
 body_at kinds.Trap numbers line =
-    option_and_then (λ bits. Some (bodies.Trap (number numbers 0) bits (number numbers 2) (number numbers 3))) (below (2 ^ 32) (number numbers 1))
+    option_and_then (λ bits. Some (bodies.Trap (number numbers 0) bits (number numbers 2) (number numbers 3)))
+    (below (2 ^ 32) (number numbers 1))
 body_at kinds.Regs numbers line = Some (bodies.Regs (number numbers 0) (take 31 (drop 1 numbers)))
-body_at kinds.Csrs numbers line = option_and_then (λ mode. Some (bodies.Csrs mode (take 17 (drop 1 numbers)))) (below (2 ^ 8) (number numbers 0))
+body_at kinds.Csrs numbers line =
+    option_and_then (λ mode. Some (bodies.Csrs mode (take 17 (drop 1 numbers)))) (below (2 ^ 8) (number numbers 0))
 body_at kinds.Load numbers line =
     option_and_then (λ retire. Some (bodies.Load retire (number numbers 3) (number numbers 4))) (retire_at numbers)
 body_at kinds.Store numbers line =
-    option_and_then (λ bits. Some (bodies.Store (number numbers 0) bits (number numbers 2) (number numbers 3))) (below (2 ^ 32) (number numbers 1))
+    option_and_then (λ bits. Some (bodies.Store (number numbers 0) bits (number numbers 2) (number numbers 3)))
+    (below (2 ^ 32) (number numbers 1))
 body_at kinds.Atomic numbers line = atomic_at numbers
 body_at kinds.Drain numbers line =
-    option_and_then (λ count. Some (bodies.Drain (number numbers 0) (number numbers 1) count (spread 64 (number numbers 1) line))) (below (2 ^ 16) (number numbers 2))
+    option_and_then (λ count. Some (bodies.Drain (number numbers 0) (number numbers 1) count (spread 64 (number numbers 1) line)))
+    (below (2 ^ 16) (number numbers 2))
 body_at kinds.Refill numbers line = option_and_then (λ bytes. Some (bodies.Refill (number numbers 0) bytes)) (whole_line line)
 body_at kinds.Beat numbers line = Some bodies.Beat
 

@@ -126,11 +126,13 @@ pub fn decode2(b: &[u8], last: u64) -> Decoded
     ensures bad { (at : ℕ) → (result ≡ Decoded.Bad at) ↔ IsBad last b.now at }
 
     // How many bytes a record takes, and at most how many are Short.
-    ensures got_len { (event : Record) (len : ℕ) → result ≡ Decoded.Got event len → (3 ≤ len) × (len ≤ length b.now) × (len ≤ LONGEST_FORM) }
+    ensures got_len { (event : Record) (len : ℕ) → result ≡ Decoded.Got event len
+        → (3 ≤ len) × (len ≤ length b.now) × (len ≤ LONGEST_FORM) }
     ensures short_len { result ≡ Decoded.Short → length b.now < LONGEST_FORM }
     // Short: no record stands at the front. Bad: none does, whatever follows.
     ensures not_yet { result ≡ Decoded.Short → (event : Record) (rest : List ℕ) → StartsWith last b.now event rest → ⊥ }
-    ensures for_good { (at : ℕ) → result ≡ Decoded.Bad at → (more : List ℕ) (event : Record) (rest : List ℕ) → StartsWith last (b.now ++ more) event rest → ⊥ }
+    ensures for_good { (at : ℕ) → result ≡ Decoded.Bad at → (more : List ℕ) (event : Record) (rest : List ℕ)
+        → StartsWith last (b.now ++ more) event rest → ⊥ }
 {
     decoded(b, last)
 }

@@ -8,5 +8,6 @@ use Rattle.dt_source.specs.Known.{TakesFrom}
 -- a read that failed comes after fewer bytes than the buffer has room for
 abbrev pub FillsAsTold : Filled → Option (List ℕ) → List ℕ → Option (List ℕ) → Type 0
 FillsAsTold Full before buf after = TakesFrom before buf after
-FillsAsTold (Ended count) before buf after = (count < length buf) × TakesFrom before (take count buf) after × IfSome after (λ rest. rest ≡ [])
+FillsAsTold (Ended count) before buf after = (count < length buf) × TakesFrom before (take count buf) after
+    × IfSome after (λ rest. rest ≡ [])
 FillsAsTold Failed before buf after = (n : ℕ) × (n < length buf) × TakesFrom before (take n buf) after

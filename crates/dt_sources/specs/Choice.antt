@@ -43,7 +43,8 @@ FitsNext image writes actions moments ask k =
 
 -- after least choices some moment fits a next load just where it and all loads before it can have sources
 abbrev pub RefusalIsExact : Type 0
-RefusalIsExact = (image : List ℕ) (writes : List Write) (actions : List Action) (moments : ℕ → ℕ) (ask : LoadAsk) → IsTrue (are_in_order writes)
+RefusalIsExact = (image : List ℕ) (writes : List Write) (actions : List Action) (moments : ℕ → ℕ) (ask : LoadAsk)
+    → IsTrue (are_in_order writes)
     → ChoosesLeast image writes actions moments
     → HasSources image writes (then_action actions (Loaded ask)) ↔ ((k : ℕ) × FitsNext image writes actions moments ask k)
 

@@ -39,7 +39,8 @@ abbrev pub FitsAsKnown : List ℕ → List Write → LocalMemory → List Action
 FitsAsKnown image writes local actions ask k = FitsLoad image writes actions (KeepsNewest local) ask k
 
 -- it may read at moment k and at no earlier one
-pub record IsLeastMoment (image : List ℕ) (writes : List Write) (local : LocalMemory) (actions : List Action) (ask : LoadAsk) (k : ℕ) : Type 0 where
+pub record IsLeastMoment (image : List ℕ) (writes : List Write) (local : LocalMemory) (actions : List Action) (ask : LoadAsk)
+    (k : ℕ) : Type 0 where
   pub fits : FitsAsKnown image writes local actions ask k
   pub least : (j : ℕ) → FitsAsKnown image writes local actions ask j → k ≤ j
 

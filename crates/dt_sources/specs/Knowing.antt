@@ -62,7 +62,8 @@ abbrev pub KnownIsFloor : Type 0
 KnownIsFloor = (local : LocalMemory) (writes : List Write) (actions : List Action) (moments : ℕ → ℕ) (ask : LoadAsk)
     → Knows local writes actions moments ask.key → AreJudged writes actions ask.key → (k byte : ℕ)
     → KeepsNewest local byte (rank actions (origin_of writes actions ask k byte))
-    ↔ KeepsFloor writes (then_action actions (Loaded ask)) moments (length actions) ask byte (rank actions (origin_of writes actions ask k byte))
+    ↔ KeepsFloor writes (then_action actions (Loaded ask)) moments (length actions) ask byte
+    (rank actions (origin_of writes actions ask k byte))
 
 -- so a moment fits a load with local memory exactly where it fits with the earlier loads' moments
 abbrev pub KnownFitIsFit : Type 0
@@ -74,7 +75,8 @@ KnownFitIsFit = (image : List ℕ) (local : LocalMemory) (writes : List Write) (
 -- with it stands before the record after the action and not before the action's
 abbrev pub IsAddedKey : List Write → List Action → (moment : ℕ) → Action → (next after : Key) → (byte : ℕ) → Key → Type 0
 IsAddedKey writes actions moment action next after byte key =
-    (origin_at writes actions moment action byte ≡ Some (origin.Write key)) ⊎ (WroteBefore writes after byte key × (key_below key next ≡ false))
+    (origin_at writes actions moment action byte ≡ Some (origin.Write key))
+    ⊎ (WroteBefore writes after byte key × (key_below key next ≡ false))
 
 -- How local memory goes on knowing: at first nothing is known; a record that does none of the actions
 -- and writes nothing leaves it; and after one more action each byte has the greater of its newest key
@@ -87,7 +89,8 @@ pub record KnowingGoesOn : Type 0 where
       → Knows local writes actions moments next → next.hart ≡ after.hart → key_below after next ≡ false
       → ((byte : ℕ) (key : Key) → WroteBefore writes after byte key → KeyBelow key next)
       → Knows local writes actions moments after
-  pub action : (local noted : LocalMemory) (writes : List Write) (actions : List Action) (moments others : ℕ → ℕ) (action : Action) (next after : Key) (added : ℕ → Option Key)
+  pub action : (local noted : LocalMemory) (writes : List Write) (actions : List Action) (moments others : ℕ → ℕ)
+      (action : Action) (next after : Key) (added : ℕ → Option Key)
       → Knows local writes actions moments next → next.hart ≡ after.hart → key_below after next ≡ false
       → ((place : ℕ) → place < length actions → others place ≡ moments place)
       → ((byte : ℕ) → IsGreatest (IsAddedKey writes actions (others (length actions)) action next after byte) (added byte))
@@ -115,4 +118,5 @@ pub record NotesAreAdded : Type 0 where
   pub writes : (writes : List Write) (actions : List Action) (moment : ℕ) (action : Action) (next after : Key) (byte : ℕ) (w : Write)
       → Contains writes w → w.key ≡ next → next.hart ≡ after.hart → KeyBelow next after
       → ((key : Key) (own : WroteBefore writes after byte key) → key_below key next ≡ false → own.write ≡ w)
-      → IsGreatest (IsAddedKey writes actions moment action next after byte) (greater (write_key (origin_at writes actions moment action byte)) (covering_key byte w))
+      → IsGreatest (IsAddedKey writes actions moment action next after byte)
+      (greater (write_key (origin_at writes actions moment action byte)) (covering_key byte w))

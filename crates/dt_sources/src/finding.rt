@@ -27,9 +27,12 @@ pub enum Found {
 pub fn find(m: &Moments, s: &Stores, l: &Local, ask: LoadAsk) -> Found
     requires early { ask.at ≤ ask.key.stamp }
     requires place { IsTrue (is_load_place ask) }
-    ensures least { OnAt result (λ moment sources. (actions : List Action) → StoresStand s.now actions → StoresAreApart actions → IsLeastMoment m.now.image m.now.writes l.now actions ask moment) }
-    ensures sources { OnAt result (λ moment sources. (actions : List Action) → StoresStand s.now actions → AreSourcesAt m.now.writes actions ask moment sources) }
-    ensures nowhere { OnNowhere result ((actions : List Action) → StoresStand s.now actions → StoresAreApart actions → (k : ℕ) → ¬ FitsAsKnown m.now.image m.now.writes l.now actions ask k) }
+    ensures least { OnAt result (λ moment sources. (actions : List Action) → StoresStand s.now actions → StoresAreApart actions
+        → IsLeastMoment m.now.image m.now.writes l.now actions ask moment) }
+    ensures sources { OnAt result (λ moment sources. (actions : List Action) → StoresStand s.now actions
+        → AreSourcesAt m.now.writes actions ask moment sources) }
+    ensures nowhere { OnNowhere result ((actions : List Action) → StoresStand s.now actions → StoresAreApart actions → (k : ℕ)
+        → ¬ FitsAsKnown m.now.image m.now.writes l.now actions ask k) }
 {
     let known = known_bytes(s, l, ask);
     let bytes = &known[..usize::from(ask.width)];
@@ -48,7 +51,8 @@ pub fn find(m: &Moments, s: &Stores, l: &Local, ask: LoadAsk) -> Found
 /// What is known of each byte of a load before any moment is tried.
 fn known_bytes(s: &Stores, l: &Local, ask: LoadAsk) -> [LoadByte; 8]
     requires in_ram { ask.addr < 0x8400_0000 }
-    ensures own { (actions : List Action) → StoresStand s.now actions → (i : ℕ) (b : LoadByte) → slice_get result i ≡ Some b → b.own ≡ forward_after actions (ask.addr + i) ask.at }
+    ensures own { (actions : List Action) → StoresStand s.now actions → (i : ℕ) (b : LoadByte) → slice_get result i ≡ Some b
+        → b.own ≡ forward_after actions (ask.addr + i) ask.at }
     ensures newest { (i : ℕ) (b : LoadByte) → slice_get result i ≡ Some b → b.newest ≡ newest_of l.now (ask.addr + i) }
 {
     let mut bytes = [LoadByte {
@@ -79,7 +83,10 @@ fn least_fit(m: &Moments, span: Span, addr: u64, raw: u64, bytes: &[LoadByte]) -
     requires before_end { addr + length bytes.now ≤ 0x8400_0000 }
     requires some { 0 < length bytes.now }
     requires in_word { addr % 8 + length bytes.now ≤ 8 }
-    ensures least { MatchOption result ((k : ℕ) → span.first ≤ k → k ≤ span.last → are_fit m.now k addr raw bytes.now ≡ false) (λ found. (span.first ≤ found) × (found ≤ span.last) × (are_fit m.now found addr raw bytes.now ≡ true) × ((k : ℕ) → span.first ≤ k → k < found → are_fit m.now k addr raw bytes.now ≡ false)) }
+    ensures least { MatchOption result ((k : ℕ) → span.first ≤ k → k ≤ span.last
+        → are_fit m.now k addr raw bytes.now ≡ false) (λ found. (span.first ≤ found) × (found ≤ span.last)
+        × (are_fit m.now found addr raw bytes.now ≡ true) × ((k : ℕ) → span.first ≤ k → k < found
+        → are_fit m.now k addr raw bytes.now ≡ false)) }
 {
     // The proof of the loop uses this law.
     steady_words_stay();

@@ -49,7 +49,8 @@ is_barring line barrier h = is_waiting h && (not (is_on line h.store) && nat_lt 
 
 -- the answer where so many stores of a line are taken, unless an older store bars that
 abbrev pub barred_or : List Held → ℕ → List Held → DrainAnswer
-barred_or held line taken = option_map_or (λ h. answer.Barred h.store.seq) (find (is_barring line (youngest_barrier 0 taken)) held) (took taken)
+barred_or held line taken =
+    option_map_or (λ h. answer.Barred h.store.seq) (find (is_barring line (youngest_barrier 0 taken)) held) (took taken)
 
 -- the answer of a drain of so many stores of a line, among a hart's stores: too few wait there, or
 -- the oldest that bars it, or what it writes

@@ -41,7 +41,8 @@ DrainsStayBelow = (kept : Kept) (actions : List Action) (action : Action) (key :
 pub record StoresGoOn : Type 0 where
   pub stores : (actions : List Action) (action : Action) → stores_of (actions ++ action ∷ []) ≡ stores_of actions ++ stores_of (action ∷ [])
   pub stored : (kept : Kept) (actions : List Action) (s : OwnStore) → StoresStand kept actions
-      → held_of (actions ++ Stored s ∷ []) ≡ held_of actions ++ record { store = s; barrier = ww_fences actions; readers = wr_fences actions; drained = None } ∷ []
+      → held_of (actions ++ Stored s ∷ []) ≡ held_of actions
+      ++ record { store = s; barrier = ww_fences actions; readers = wr_fences actions; drained = None } ∷ []
   pub drained : (kept : Kept) (actions : List Action) (key : Key) (line count : ℕ) → StoresStand kept actions
       → count ≤ length (filter (is_waiting_on line) (held_of actions))
       → TakesFirst line key count (held_of actions) (held_of (actions ++ Drained key line count ∷ []))

@@ -41,5 +41,7 @@ pub record KeepsMarks (old new : Kept) : Type 0 where
 -- A mark that is undone to, and each earlier one, stays live and stands for the same stores; so
 -- does one before which all is forgotten, and each later one.
 pub record MarksStayLive : Type 0 where
-  pub undone_to : (k : Kept) (to m : Mark) → IsLive k to → IsLive k m → m.at ≤ to.at → IsLive (undone k to) m × (held_at (undone k to) m ≡ held_at k m)
-  pub forgotten_before : (k : Kept) (to m : Mark) → IsLive k to → IsLive k m → to.at ≤ m.at → IsLive (forgotten k to) m × (held_at (forgotten k to) m ≡ held_at k m)
+  pub undone_to : (k : Kept) (to m : Mark) → IsLive k to → IsLive k m → m.at ≤ to.at
+      → IsLive (undone k to) m × (held_at (undone k to) m ≡ held_at k m)
+  pub forgotten_before : (k : Kept) (to m : Mark) → IsLive k to → IsLive k m → to.at ≤ m.at
+      → IsLive (forgotten k to) m × (held_at (forgotten k to) m ≡ held_at k m)

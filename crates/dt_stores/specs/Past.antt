@@ -26,7 +26,9 @@ without_last xs = take (length xs - 1) xs
 abbrev pub released : (line skipped count : ℕ) → List Held → List Held
 released line skipped count [] = []
 released line zero count (h ∷ hs) =
-    if is_on line h.store && nat_lt 0 count then record h { drained = None } ∷ released line 0 (count - 1) hs else h ∷ released line 0 count hs
+    if is_on line h.store && nat_lt 0 count
+    then record h { drained = None } ∷ released line 0 (count - 1) hs
+    else h ∷ released line 0 count hs
 released line (suc skipped) count (h ∷ hs) = h ∷ released line (if is_on line h.store then skipped else suc skipped) count hs
 
 -- what waited first before the last drain
@@ -35,7 +37,11 @@ last_first late first = option_map_or (λ l. l.first) (slice_get late (length la
 
 abbrev pub before_step : Buffer → Step → Buffer
 before_step b Commit = record b { held = without_last b.held }
-before_step b (Drain line taken count) = record { held = released line taken count b.held; first = last_first b.late b.first; late = without_last b.late }
+before_step b (Drain line taken count) = record {
+  held = released line taken count b.held;
+  first = last_first b.late b.first;
+  late = without_last b.late;
+}
 
 -- what was kept before some steps, which are in the order in which they came
 abbrev pub before_steps : Buffer → List Step → Buffer

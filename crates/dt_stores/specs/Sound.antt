@@ -47,7 +47,8 @@ pub record WasSound (b : Buffer) (ww wr : ℕ) (numbers : ℕ → ℕ) : Type 0 
 
 -- So could it before each of some steps, whatever fences there were then.
 abbrev pub WereSound : Buffer → (ℕ → ℕ) → List Step → Type 0
-WereSound b taken steps = (n : ℕ) → n < length steps → (ww : ℕ) × (wr : ℕ) × WasSound (before_steps b (drop n steps)) ww wr (taken_before taken (drop n steps))
+WereSound b taken steps = (n : ℕ) → n < length steps
+    → (ww : ℕ) × (wr : ℕ) × WasSound (before_steps b (drop n steps)) ww wr (taken_before taken (drop n steps))
 
 -- What is kept of a hart can be searched, now and after its last steps are undone.
 pub record HasPast (b : Buffer) (ww wr : ℕ) (lines : List Line) (steps : Steps) : Type 0 where

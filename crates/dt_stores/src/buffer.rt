@@ -122,7 +122,8 @@ impl Stores {
     /// it.
     pub fn drain(&mut self, key: Key, line: u64, count: u16) -> DrainAnswer
         requires { All (λ h. IfSome h.drained (λ k. KeyBelow k key)) self.old.held }
-        ensures answer { UnlessOutOfMemory result ((actions : List Action) → StoresStand self.old actions → result ≡ drain_answer actions line count) }
+        ensures answer { UnlessOutOfMemory result ((actions : List Action) → StoresStand self.old actions
+            → result ≡ drain_answer actions line count) }
         ensures took { OnTook result (GainsAction self.old self.new (Drained key line count)) }
         ensures marks { OnTook result (KeepsMarks self.old self.new) }
         ensures fences { (self.new.ww ≡ self.old.ww) × (self.new.wr ≡ self.old.wr) }

@@ -14,7 +14,8 @@ pub fn loads_keep_stores()
 
 /// A law: what stands for some actions stands for them and an atomic.
 pub fn atomics_keep_stores()
-    ensures { (kept : Kept) (key : Key) (addr width : ℕ) (reads acquires : Bool) → GainsAction kept kept (Atomic key addr width reads acquires) }
+    ensures { (kept : Kept) (key : Key) (addr width : ℕ) (reads acquires : Bool)
+        → GainsAction kept kept (Atomic key addr width reads acquires) }
 {}
 
 /// A law: a store comes last, a drain takes the first that wait on its line, and any other action

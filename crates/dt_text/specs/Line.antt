@@ -44,18 +44,21 @@ retire_fields r = double_field (codes "pc") r.pc ++ word_field (codes "bits") r.
 abbrev pub body_text : Body → List ℕ
 body_text (Commit retire) = codes "Commit" ++ retire_fields retire
 body_text (Trap pc bits cause tval) =
-    codes "Trap" ++ double_field (codes "pc") pc ++ word_field (codes "bits") bits ++ double_field (codes "cause") cause ++ double_field (codes "tval") tval
+    codes "Trap" ++ double_field (codes "pc") pc ++ word_field (codes "bits") bits ++ double_field (codes "cause") cause
+    ++ double_field (codes "tval") tval
 body_text (Regs pc x) = codes "Regs" ++ double_field (codes "pc") pc ++ doubles_field (codes "x") x
 body_text (Csrs mode v) = codes "Csrs" ++ decimal_field (codes "mode") mode ++ doubles_field (codes "v") v
 body_text (Load retire at paddr) =
     codes "Load" ++ retire_fields retire ++ decimal_field (codes "at") at ++ double_field (codes "paddr") paddr
 body_text (Store pc bits paddr value) =
-    codes "Store" ++ double_field (codes "pc") pc ++ word_field (codes "bits") bits ++ double_field (codes "paddr") paddr ++ double_field (codes "value") value
+    codes "Store" ++ double_field (codes "pc") pc ++ word_field (codes "bits") bits ++ double_field (codes "paddr") paddr
+    ++ double_field (codes "value") value
 body_text (Atomic retire paddr width wrote new) =
     codes "Atomic" ++ retire_fields retire ++ double_field (codes "paddr") paddr ++ decimal_field (codes "width") width
     ++ decimal_field (codes "wrote") (flag wrote) ++ double_field (codes "new") new
 body_text (Drain line mask count bytes) =
-    codes "Drain" ++ double_field (codes "line") line ++ double_field (codes "mask") mask ++ decimal_field (codes "count") count ++ bytes_field (codes "bytes") bytes
+    codes "Drain" ++ double_field (codes "line") line ++ double_field (codes "mask") mask ++ decimal_field (codes "count") count
+    ++ bytes_field (codes "bytes") bytes
 body_text (Refill line bytes) = codes "Refill" ++ double_field (codes "line") line ++ bytes_field (codes "bytes") bytes
 body_text Beat = codes "Beat"
 

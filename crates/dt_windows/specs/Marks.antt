@@ -33,5 +33,7 @@ pub record KeepsMarks (old new : WindowsView) : Type 0 where
 -- A mark that is undone to, and each earlier one, stays live and stands for the same pages; so
 -- does one before which all is forgotten, and each later one.
 pub record MarksStayLive : Type 0 where
-  pub undone_to : (w : WindowsView) (to m : Mark) → IsLive w to → IsLive w m → m.at ≤ to.at → IsLive (undone w to) m × (pages_at (undone w to) m ≡ pages_at w m)
-  pub forgotten_before : (w : WindowsView) (to m : Mark) → IsLive w to → IsLive w m → to.at ≤ m.at → IsLive (forgotten w to) m × (pages_at (forgotten w to) m ≡ pages_at w m)
+  pub undone_to : (w : WindowsView) (to m : Mark) → IsLive w to → IsLive w m → m.at ≤ to.at
+      → IsLive (undone w to) m × (pages_at (undone w to) m ≡ pages_at w m)
+  pub forgotten_before : (w : WindowsView) (to m : Mark) → IsLive w to → IsLive w m → to.at ≤ m.at
+      → IsLive (forgotten w to) m × (pages_at (forgotten w to) m ≡ pages_at w m)

@@ -165,7 +165,8 @@ impl Windows {
 
     /// The place at which this stands, to which it can be undone from now on.
     pub fn mark(&mut self) -> Mark
-        ensures here { result ≡ record { at = self.old.from + length self.old.past; instructions = self.old.instructions; all = self.old.all } }
+        ensures here { let at = self.old.from + length self.old.past in
+            result ≡ record { at = at; instructions = self.old.instructions; all = self.old.all } }
         ensures kept { self.new ≡ record self.old { keeps = true } }
         ensures live { IsLive self.new result }
     {
