@@ -7,7 +7,7 @@ use Rattle.dt_record.specs.declared.keys.Key.{Key}
 use Rattle.dt_record.specs.declared.records.Record.{Record}
 use Rattle.dt_record.specs.declared.writes.Write.{Write}
 use Rattle.dt_record.specs.Keys.{KeyBelow}
-use Rattle.dt_record.specs.KeyLaws.{KeyBelow-stamps}
+use Rattle.dt_record.proofs.KeyLaws.{KeyBelow-stamps}
 use Rattle.dt_record.specs.LoadSources.{AreLeastSources}
 use Rattle.dt_hart.specs.Fences.{fences_of}
 use Rattle.dt_hart.specs.Reserving.{reserved_in}
