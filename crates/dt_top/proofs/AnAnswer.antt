@@ -1,5 +1,5 @@
 -- The program has an answer.
-use Rattle.std.proofs.Common.{◌≡◌, ◌≤◌, ◌⊎◌, ℕ, Bool, true, false, List, [], ◌∷◌, ◌++◌, map, length, Option, Some, None, refl, ap, subst, inl, inr}
+use Rattle.std.proofs.Common.{◌≡◌, ◌∙◌, ◌⊎◌, ℕ, Bool, true, false, List, [], ◌∷◌, ◌++◌, map, length, Option, Some, None, refl, ap, subst, inl, inr}
 use Rattle.std.specs.Prelude.{nat_le}
 use Rattle.std.proofs.lemmas.Bool.{leb-true, leb-false}
 use Rattle.dt_record.specs.declared.records.Record.{Record}
@@ -13,11 +13,13 @@ use Rattle.dt_pass.specs.Laws.{AFileHasACheck}
 use Rattle.dt_reading.specs.Reading.{first_answers, refusal_in}
 use Rattle.dt_report.specs.Report.{report_text}
 use Rattle.dt_words.specs.declared.commands.Task.{Task}
-use Rattle.dt_words.specs.declared.commands.Task.TheVariants.{Pass, Dump, Convert}
+use Rattle.dt_words.specs.declared.commands.Task.TheVariants.{Pass, Check, Dump, Convert}
 use Rattle.dt_words.specs.Table.{Asked}
-use Rattle.dt_top.specs.Answer.{Answer, answer, refusal_answer, refusal_line, too_long_answer, usage_answer, verdict_status, IsAnswer, IsReport, IsTooLong}
+use Rattle.dt_top.specs.Answer.{Answer, answer, refusal_answer, refusal_line, too_long_answer, usage_answer, verdict_status, Fits, IsAnswer, IsReport, IsTooLong}
 use Rattle.dt_top.specs.Laws.{ARunHasAnAnswer}
+use Rattle.dt_top.specs.Replies.{JudgesFile}
 use Rattle.dt_top.proofs.Filing.{convert_task, dump_task}
+use Rattle.dt_top.proofs.Tasks.{check_judges, pass_judges}
 use Rattle.dt_top.proofs.Replying.{refused_is_answer, report_is_answer, too_long_is_answer, usage_is_answer}
 
 -- each list of bytes gives answers
@@ -46,13 +48,13 @@ records_come s bytes (ReadFault ∷ more) are none = absurd are
 records_come s bytes (OutOfMemory ∷ more) are none = absurd are
 
 -- the header, the records and the end that a file answers
-record IsWhole (probes : List ℕ) : Type 0 where
+record IsWhole (answers : List Next) : Type 0 where
   pub harts : ℕ
   pub wide : Bool
   pub records : List Record
-  pub file : AreAnswers probes (first_answers harts wide records ++ End (length records) ∷ [])
+  pub whole : answers ≡ first_answers harts wide records ++ End (length records) ∷ []
 
-is_whole : EndsCount → (probes : List ℕ) (answers : List Next) → AreAnswers probes answers → refusal_in answers ≡ None → IsWhole probes
+is_whole : EndsCount → (probes : List ℕ) (answers : List Next) → AreAnswers probes answers → refusal_in answers ≡ None → IsWhole answers
 is_whole counts probes [] are none = absurd are
 is_whole counts probes (Header harts wide ∷ more) are none =
     let come = records_come _ are.1.rest more are.1.after none in
@@ -62,7 +64,8 @@ is_whole counts probes (Header harts wide ∷ more) are none =
       harts = harts;
       wide = wide;
       records = come.0;
-      file = subst (λ (n : ℕ). AreAnswers probes (first_answers harts wide come.0 ++ End n ∷ [])) counted all;
+      whole = ap (λ (xs : List Next). Header harts wide ∷ xs) come.2
+          ∙ ap (λ (n : ℕ). first_answers harts wide come.0 ++ End n ∷ []) counted;
     }
 is_whole counts probes (Event r ∷ more) are none = absurd are
 is_whole counts probes (End count ∷ more) are none = absurd are
@@ -73,43 +76,43 @@ is_whole counts probes (OutOfMemory ∷ more) are none = absurd are
 
 -- ---- the check of a file
 
-a_report : AFileHasACheck → (image probes : List ℕ) (sources : Bool) → IsWhole probes → (a : Answer) × IsReport image probes sources a
-a_report checks image probes sources whole =
+a_report : AFileHasACheck → (image : List ℕ) (answers : List Next) (sources : Bool) → IsWhole answers → (a : Answer) × IsReport image answers sources a
+a_report checks image answers sources whole =
     let check = checks image whole.wide whole.harts whole.records in (
       answer (verdict_status check.0.verdict) (report_text check.0 sources),
       record {
         harts = whole.harts;
         wide = whole.wide;
         records = whole.records;
-        file = whole.file;
+        whole = whole.whole;
         checked = check.0;
         is_checked = check.1;
         reported = refl;
       },
     )
 
-pub has_length : (image : List ℕ) → IsTooLong image ⊎ (length image ≤ 16777216)
+pub has_length : (image : List ℕ) → IsTooLong image ⊎ Fits image
 has_length image = by_test (nat_le (length image) 16777216) refl
   where
-    by_test : (t : Bool) → nat_le (length image) 16777216 ≡ t → IsTooLong image ⊎ (length image ≤ 16777216)
+    by_test : (t : Bool) → nat_le (length image) 16777216 ≡ t → IsTooLong image ⊎ Fits image
     by_test true is = inr (leb-true (length image) 16777216 is)
     by_test false is = inl (leb-false (length image) 16777216 is)
 
 -- ---- the answer to each task
 
-an_answer_to_pass : AFileHasACheck → EndsCount → (asked : Asked) (image probes : List ℕ) (answers : List Next) → asked.task ≡ Pass
+an_answer_to_check : AFileHasACheck → EndsCount → (asked : Asked) (image probes : List ℕ) (answers : List Next) → JudgesFile asked.task
     → AreAnswers probes answers → (a : Answer) × IsAnswer (Some asked) image probes a
-an_answer_to_pass checks counts asked image probes answers is are = by_length (has_length image)
+an_answer_to_check checks counts asked image probes answers judges are = by_length (has_length image)
   where
-    by_refusal : length image ≤ 16777216 → (o : Option Refusal) → refusal_in answers ≡ o → (a : Answer) × IsAnswer (Some asked) image probes a
+    by_refusal : Fits image → (o : Option Refusal) → refusal_in answers ≡ o → (a : Answer) × IsAnswer (Some asked) image probes a
     by_refusal fits (Some r) found =
-        (refusal_answer r, refused_is_answer asked image probes r (refusal_line r) is fits refl (answers, are, found))
+        (refusal_answer r, refused_is_answer asked image probes answers r (refusal_line r) judges fits are refl found)
     by_refusal fits None none =
-        let report = a_report checks image probes asked.sources (is_whole counts probes answers are none) in
-        (report.0, report_is_answer asked image probes report.0 is fits report.1)
+        let report = a_report checks image answers asked.sources (is_whole counts probes answers are none) in
+        (report.0, report_is_answer asked image probes answers report.0 judges fits are report.1)
 
-    by_length : IsTooLong image ⊎ (length image ≤ 16777216) → (a : Answer) × IsAnswer (Some asked) image probes a
-    by_length (inl long) = (too_long_answer, too_long_is_answer asked image probes is long)
+    by_length : IsTooLong image ⊎ Fits image → (a : Answer) × IsAnswer (Some asked) image probes a
+    by_length (inl long) = (too_long_answer, too_long_is_answer asked image probes judges long)
     by_length (inr fits) = by_refusal fits (refusal_in answers) refl
 
 pub a_run_has_an_answer : SomeList → EndsCount → AFileHasACheck → ARunHasAnAnswer
@@ -119,6 +122,9 @@ a_run_has_an_answer lists counts checks (Some asked) image probes = by_task aske
     by_task : (task : Task) → asked.task ≡ task → (a : Answer) × IsAnswer (Some asked) image probes a
     by_task Pass is =
         let list = lists probes in
-        an_answer_to_pass checks counts asked image probes list.0 is list.1
-    by_task Dump is = (_, (dump_task asked None is).is_answer image probes _ _ refl refl)
-    by_task Convert is = (_, (convert_task asked None is).is_answer image probes _ _ refl refl)
+        an_answer_to_check checks counts asked image probes list.0 (pass_judges asked.task is) list.1
+    by_task Check is =
+        let list = lists probes in
+        an_answer_to_check checks counts asked image probes list.0 (check_judges asked.task is) list.1
+    by_task Dump is = let list = lists probes in (_, (dump_task asked is).is_answer image probes list.0 _ _ list.1 refl refl)
+    by_task Convert is = let list = lists probes in (_, (convert_task asked is).is_answer image probes list.0 _ _ list.1 refl refl)

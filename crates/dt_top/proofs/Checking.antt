@@ -33,26 +33,27 @@ not_refused (r ∷ rs) count more = not_refused rs count more
 
 report_said : (image : List ℕ) (sources : Bool) (probes : Option (List ℕ)) (told : Option (List Next)) (progress : Progress) (checked : Checked) (v : _) (text : List ℕ)
     → AreToldOf probes told → IsCheckOf image told progress checked → v ≡ checked.verdict → text ≡ report_text checked sources
-    → IfSome probes (λ b. IsReport image b sources (answer (verdict_status v) text))
-report_said image sources None told progress checked v text tells check verdict written = tt
+    → IfSome told (λ answers. IsReport image answers sources (answer (verdict_status v) text))
+report_said image sources None told progress checked v text tells check verdict written =
+    subst (λ (t : Option (List Next)). IfSome t (λ answers. IsReport image answers sources (answer (verdict_status v) text))) (sym tells) tt
 report_said image sources (Some b) told progress checked v text tells check verdict written =
     let known = subst (λ (t : Option (List Next)). IsCheckOf image t progress checked) tells.1 check in
     let more = known.came.answers.0 in
     let opened = subst (λ (answers : List Next). AreAnswers b answers) known.came.answers.1 tells.2 in
     let ended = behind_end _ opened.1.rest known.records _ more opened.1.after in
-    record {
+    subst (λ (t : Option (List Next)). IfSome t (λ answers. IsReport image answers sources (answer (verdict_status v) text))) (sym tells.1) (record {
       harts = known.harts;
       wide = known.wide;
       records = known.records;
-      file = subst (λ (rest : List Next). AreAnswers b (first_answers known.harts known.wide known.records ++ End (length known.records) ∷ rest)) ended opened;
+      whole = known.came.answers.1 ∙ ap (λ (rest : List Next). first_answers known.harts known.wide known.records ++ End (length known.records) ∷ rest) ended;
       checked = checked;
       is_checked = known.is_checked;
       reported = ap (λ w. answer (verdict_status w) text) verdict ∙ ap (λ t. answer (verdict_status checked.verdict) t) written;
-    }
+    })
 
-pub checked_said : (image : List ℕ) (sources : Bool) (probes : Option (List ℕ)) (probes_old probes_new : ℕ)
+pub checked_said : (image : List ℕ) (sources : Bool) (probes : Option (List ℕ)) (faults_old faults_new : ℕ)
     (told : Option (List Next)) (progress : Progress) (checked : Checked) (reply : Reply) → AreToldOf probes told
-    → IsCheckOf image told progress checked → IsReportReply checked sources reply → IsPassReply image sources probes probes_old probes_new reply
+    → IsCheckOf image told progress checked → IsReportReply checked sources reply → IsPassReply image sources told faults_old faults_new reply
 checked_said image sources probes _ _ told progress checked Usage tells check is = is
 checked_said image sources probes _ _ told progress checked TooLong tells check is = is
 checked_said image sources probes _ _ told progress checked ReadFaultImage tells check is = is
@@ -61,28 +62,21 @@ checked_said image sources probes _ _ told progress checked (Report v text) tell
     report_said image sources probes told progress checked v text tells check is.0 is.1
 checked_said image sources probes _ _ told progress checked OutOfMemory tells check is = tt
 
--- a refusal of the answers is one of the bytes
-refused_bytes : (probes : Option (List ℕ)) (told : Option (List Next)) (r : Refusal) → AreToldOf probes told → IfSome told (λ answers. refusal_in answers ≡ Some r)
-    → IfSome probes (λ b. IsRefused b r)
-refused_bytes None told r tells known = tt
-refused_bytes (Some b) told r tells known =
-    (tells.0, tells.2, subst (λ (t : Option (List Next)). IfSome t (λ answers. refusal_in answers ≡ Some r)) tells.1 known)
-
 -- the counts of the stream are those of the source, which was lent before and was given back after
-pub refused_said : (image : List ℕ) (sources : Bool) (probes : Option (List ℕ)) (probes_old probes_new own_old own_new : ℕ)
-    (told : Option (List Next)) (r : Refusal) (reply : Reply) → AreToldOf probes told → own_old ≡ probes_old
+pub refused_said : (image : List ℕ) (sources : Bool) (faults_old faults_new own_old own_new : ℕ)
+    (told : Option (List Next)) (r : Refusal) (reply : Reply) → own_old ≡ faults_old
     → (r ≢ refusal.ReadFault → r ≢ refusal.OutOfMemory → IfSome told (λ answers. refusal_in answers ≡ Some r))
-    → (r ≡ refusal.ReadFault → Rose own_old own_new) → probes_new ≡ own_new
-    → IsRefusalReply r reply → IsPassReply image sources probes probes_old probes_new reply
-refused_said image sources probes probes_old probes_new own_old own_new told r Usage tells first known fault last is = is
-refused_said image sources probes probes_old probes_new own_old own_new told r TooLong tells first known fault last is = is
-refused_said image sources probes probes_old probes_new own_old own_new told r ReadFaultImage tells first known fault last is = is
-refused_said image sources probes probes_old probes_new own_old own_new told r (Refused named line) tells first known fault last is =
-    subst (λ (x : Refusal). (string_bytes line ≡ refusal_line x) × (x ≡ refusal.ReadFault → Rose probes_old probes_new)
-    × (x ≢ refusal.ReadFault → x ≢ refusal.OutOfMemory → IfSome probes (λ b. IsRefused b x))) (sym is.0) (
+    → (r ≡ refusal.ReadFault → Rose own_old own_new) → faults_new ≡ own_new
+    → IsRefusalReply r reply → IsPassReply image sources told faults_old faults_new reply
+refused_said image sources faults_old faults_new own_old own_new told r Usage first known fault last is = is
+refused_said image sources faults_old faults_new own_old own_new told r TooLong first known fault last is = is
+refused_said image sources faults_old faults_new own_old own_new told r ReadFaultImage first known fault last is = is
+refused_said image sources faults_old faults_new own_old own_new told r (Refused named line) first known fault last is =
+    subst (λ (x : Refusal). (string_bytes line ≡ refusal_line x) × (x ≡ refusal.ReadFault → Rose faults_old faults_new)
+    × (x ≢ refusal.ReadFault → x ≢ refusal.OutOfMemory → IfSome told (λ answers. IsRefused answers x))) (sym is.0) (
       is.1,
-      λ e. subst (λ (n : ℕ). Rose n probes_new) first (subst (λ (n : ℕ). Rose own_old n) (sym last) (fault e)),
-      λ read memory. refused_bytes probes told r tells (known read memory),
+      λ e. subst (λ (n : ℕ). Rose n faults_new) first (subst (λ (n : ℕ). Rose own_old n) (sym last) (fault e)),
+      known,
     )
-refused_said image sources probes probes_old probes_new own_old own_new told r (Report v text) tells first known fault last is = absurd is
-refused_said image sources probes probes_old probes_new own_old own_new told r OutOfMemory tells first known fault last is = tt
+refused_said image sources faults_old faults_new own_old own_new told r (Report v text) first known fault last is = absurd is
+refused_said image sources faults_old faults_new own_old own_new told r OutOfMemory first known fault last is = tt

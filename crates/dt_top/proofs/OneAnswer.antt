@@ -1,5 +1,5 @@
 -- The program has one answer.
-use Rattle.std.proofs.Common.{◌≡◌, ◌≤◌, ◌⊎◌, ℕ, Bool, List, [], ◌∷◌, ◌++◌, map, length, Option, Some, None, refl, sym, ap, ◌∙◌, subst, inl, inr}
+use Rattle.std.proofs.Common.{◌≡◌, ◌⊎◌, ℕ, Bool, List, [], ◌∷◌, ◌++◌, map, length, Option, Some, None, refl, sym, ap, ◌∙◌, subst, inl, inr}
 use Rattle.dt_record.specs.declared.records.Record.{Record}
 use Rattle.dt_record.specs.declared.streams.Next.{Next}
 use Rattle.dt_record.specs.declared.streams.Next.TheVariants.{Event, End}
@@ -11,11 +11,13 @@ use Rattle.dt_pass.specs.Laws.{AFileHasOneCheck}
 use Rattle.dt_reading.specs.Reading.{first_answers, refusal_in}
 use Rattle.dt_report.specs.Report.{report_text}
 use Rattle.dt_words.specs.declared.commands.Task.{Task}
-use Rattle.dt_words.specs.declared.commands.Task.TheVariants.{Pass, Dump, Convert}
+use Rattle.dt_words.specs.declared.commands.Task.TheVariants.{Pass, Check, Dump, Convert}
 use Rattle.dt_words.specs.Table.{Asked}
-use Rattle.dt_top.specs.Answer.{Answer, answer, convert_answer, dump_answer, verdict_status, IsAnswer, IsReport, IsTooLong}
+use Rattle.dt_top.specs.Answer.{Answer, answer, convert_answer, dump_answer, verdict_status, Fits, IsAnswer, IsReport, IsTooLong}
 use Rattle.dt_top.specs.Laws.{ARunHasOneAnswer}
+use Rattle.dt_top.specs.Replies.{JudgesFile}
 use Rattle.dt_top.proofs.AnAnswer.{has_length}
+use Rattle.dt_top.proofs.Tasks.{check_judges, pass_judges}
 
 -- bytes give no second list of answers
 abbrev pub OneList : Type 0
@@ -34,12 +36,12 @@ same_records (x ∷ xs) (y ∷ ys) m n same =
 
 -- ---- the reports of a file are one
 
-one_report : OneList → AFileHasOneCheck → (image probes : List ℕ) (sources : Bool) (a b : Answer)
-    → IsReport image probes sources a → IsReport image probes sources b → a ≡ b
-one_report lists checks image probes sources a b one other =
+one_report : AFileHasOneCheck → (image : List ℕ) (answers : List Next) (sources : Bool) (a b : Answer)
+    → IsReport image answers sources a → IsReport image answers sources b → a ≡ b
+one_report checks image answers sources a b one other =
     let same : first_answers one.harts one.wide one.records ++ End (length one.records) ∷ []
     ≡ first_answers other.harts other.wide other.records ++ End (length other.records) ∷ []
-    = lists probes _ _ one.file other.file in
+    = sym one.whole ∙ other.whole in
     let harts : one.harts ≡ other.harts = cc in
     let wide : one.wide ≡ other.wide = cc in
     let rest : map (λ r. Event r) one.records ++ End (length one.records) ∷ [] ≡ map (λ r. Event r) other.records ++ End (length other.records) ∷ [] = cc in
@@ -52,22 +54,23 @@ one_report lists checks image probes sources a b one other =
 
 -- ---- the answers to each task are one
 
-one_answer_to_pass : OneList → AFileHasOneCheck → (asked : Asked) (image probes : List ℕ) (a b : Answer) → asked.task ≡ Pass
+one_answer_to_check : OneList → AFileHasOneCheck → (asked : Asked) (image probes : List ℕ) (a b : Answer) → JudgesFile asked.task
     → IsAnswer (Some asked) image probes a → IsAnswer (Some asked) image probes b → a ≡ b
-one_answer_to_pass lists checks asked image probes a b is one other = by_length (has_length image)
+one_answer_to_check lists checks asked image probes a b judges one other = by_length (has_length image)
   where
     same : one.answers ≡ other.answers
     same = lists probes one.answers other.answers one.are_answers other.are_answers
 
-    by_refusal : length image ≤ 16777216 → (o : Option Refusal) → refusal_in one.answers ≡ o → a ≡ b
+    by_refusal : Fits image → (o : Option Refusal) → refusal_in one.answers ≡ o → a ≡ b
     by_refusal fits (Some r) found =
-        one.refused r is fits found ∙ sym (other.refused r is fits (ap refusal_in (sym same) ∙ found))
+        one.refused r judges.report fits found ∙ sym (other.refused r judges.report fits (ap refusal_in (sym same) ∙ found))
     by_refusal fits None none =
-        one_report lists checks image probes asked.sources a b (one.report asked.sources (is, refl) fits none)
-        (other.report asked.sources (is, refl) fits (ap refusal_in (sym same) ∙ none))
+        one_report checks image one.answers asked.sources a b (one.report asked.sources (judges.report, refl) fits none)
+        (subst (λ (answers : List Next). IsReport image answers asked.sources b) (sym same)
+        (other.report asked.sources (judges.report, refl) fits (ap refusal_in (sym same) ∙ none)))
 
-    by_length : IsTooLong image ⊎ (length image ≤ 16777216) → a ≡ b
-    by_length (inl long) = one.too_long is long ∙ sym (other.too_long is long)
+    by_length : IsTooLong image ⊎ Fits image → a ≡ b
+    by_length (inl long) = one.too_long judges.image_first long ∙ sym (other.too_long judges.image_first long)
     by_length (inr fits) = by_refusal fits (refusal_in one.answers) refl
 
 pub a_run_has_one_answer : OneList → AFileHasOneCheck → ARunHasOneAnswer
@@ -78,7 +81,8 @@ a_run_has_one_answer lists checks (Some asked) image probes a b one other = by_t
     same = lists probes one.answers other.answers one.are_answers other.are_answers
 
     by_task : (task : Task) → asked.task ≡ task → a ≡ b
-    by_task Pass is = one_answer_to_pass lists checks asked image probes a b is one other
+    by_task Pass is = one_answer_to_check lists checks asked image probes a b (pass_judges asked.task is) one other
+    by_task Check is = one_answer_to_check lists checks asked image probes a b (check_judges asked.task is) one other
     by_task Dump is = one.dump is ∙ ap dump_answer same ∙ sym (other.dump is)
     by_task Convert is =
         one.convert asked.to (is, refl) ∙ ap (λ answers. convert_answer asked.to answers) same ∙ sym (other.convert asked.to (is, refl))

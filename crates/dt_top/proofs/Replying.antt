@@ -1,11 +1,13 @@
 -- What a reply to words comes to.
-use Rattle.std.proofs.Common.{◌≡◌, ◌≢◌, ◌≤◌, ◌⊎◌, ℕ, Bool, List, [], ◌∷◌, ◌++◌, length, Option, Some, None, Result, Ok, Err, IfSome, IsSome, IsSomeAnd, refl, sym, ap, ◌∙◌, subst, inl, inr, arith}
+use Rattle.std.proofs.Common.{◌≡◌, ◌≢◌, ◌≤◌, ◌⊎◌, ℕ, Bool, List, [], length, Option, Some, None, Result, Ok, Err, IfSome, IsSomeAnd, refl, sym, ap, ◌∙◌, subst, inl, inr, arith}
+use Rattle.std.specs.Option.{option_map}
 use Rattle.std.specs.String.{string_bytes}
 use Rattle.std.specs.Prelude.{nat_le}
 use Rattle.std.proofs.lemmas.Bool.{cases_eq}
-use Rattle.dt_source.specs.Faults.{Rose}
-use Rattle.dt_source.specs.Known.{Appends}
+use Rattle.std.proofs.lemmas.Option.{same_Some}
 use Rattle.dt_record.specs.declared.writes.What.{What}
+use Rattle.dt_record.specs.declared.streams.Next.{Next}
+use Rattle.dt_record.specs.Answers.{AreAnswers}
 use Rattle.dt_dump.specs.Dump.{memory_line, read_fault_line}
 use Rattle.dt_image.specs.declared.images.ImageRefusal.{ImageRefusal}
 use Rattle.dt_image.specs.declared.images.ImageRefusal.TheVariants as image_refusal
@@ -14,20 +16,19 @@ use Rattle.dt_verdict.specs.declared.answers.Refusal.{Refusal}
 use Rattle.dt_verdict.specs.declared.answers.Refusal.TheVariants.{Malformed, Limit, ReadFault, OutOfMemory}
 use Rattle.dt_verdict.specs.declared.verdicts.Verdict.{Verdict}
 use Rattle.dt_verdict.specs.declared.verdicts.Verdict.TheVariants.{Pass, Fail}
-use Rattle.dt_words.specs.declared.commands.Task.TheVariants as tasks
 use Rattle.dt_words.specs.Table.{Asked}
-use Rattle.dt_record.specs.declared.streams.Next.TheVariants.{End}
 use Rattle.dt_probe_file.specs.Computing.{answers_of}
+use Rattle.dt_probe_file.specs.Told.{AreToldOf}
 use Rattle.dt_probe_file.proofs.Exists.{of_are}
-use Rattle.dt_probe_file.proofs.OneAnswer.{answers_are_one}
-use Rattle.dt_reading.specs.Reading.{first_answers, refusal_in}
+use Rattle.dt_reading.specs.Reading.{refusal_in}
 use Rattle.dt_top.specs.declared.replies.Reply.{Reply}
 use Rattle.dt_top.specs.declared.replies.Reply.TheVariants as reply
-use Rattle.dt_top.specs.Answer.{Answer, answer, verdict_status, usage_answer, too_long_answer, image_fault_answer, memory_answer, refusal_answer, refusal_line, refusal_status, AsksFor, IsAnswer, IsRefused, IsReport, IsTooLong, MayWrite, WhereTold}
-use Rattle.dt_top.specs.Replies.{answer_by, CameOf, IsPassReply}
-use Rattle.dt_top.specs.Running.{IsPut, Ran}
+use Rattle.dt_top.specs.Answer.{Answer, answer, verdict_status, usage_answer, too_long_answer, image_fault_answer, memory_answer, refusal_answer, refusal_line, refusal_status, Fits, IsAnswer, IsRefused, IsReport, IsTooLong}
+use Rattle.dt_top.specs.Replies.{answer_by, CameOf, IsPassReply, IsPut, JudgesFile}
+use Rattle.dt_top.specs.Running.{Outside, outside, HasFailed, IsGiven, MayWrite, Ran, StopsWith}
+use Rattle.dt_top.specs.Tasks.{WhereTold}
 use Rattle.dt_top.proofs.Checking.{not_refused}
-use Rattle.dt_top.proofs.Tasks.{both_told, either, not_dump, not_convert, some_map, where_map, where_pass}
+use Rattle.dt_top.proofs.Tasks.{are_told, both_told, either, not_dump, not_convert, of_told, some_map, where_map, where_judged}
 
 -- ---- the answer
 
@@ -43,44 +44,48 @@ usage_is_answer i b = record {
   convert = λ to is. absurd is;
 }
 
-pub too_long_is_answer : (asked : Asked) (i b : List ℕ) → asked.task ≡ tasks.Pass → IsTooLong i → IsAnswer (Some asked) i b too_long_answer
-too_long_is_answer asked i b is long = record {
+pub too_long_is_answer : (asked : Asked) (i b : List ℕ) → JudgesFile asked.task → IsTooLong i → IsAnswer (Some asked) i b too_long_answer
+too_long_is_answer asked i b judges long = record {
   answers = answers_of b;
   are_answers = of_are b;
   usage = λ none. cc;
   too_long = λ _ _. refl;
   refused = λ r _ fits. absurd (omega (arith, long, fits));
   report = λ sources _ fits. absurd (omega (arith, long, fits));
-  dump = λ other. absurd (not_dump asked.task is other);
-  convert = λ to other. absurd (not_convert asked.task is other.0);
+  dump = λ other. absurd (not_dump asked.task judges.report other);
+  convert = λ to other. absurd (not_convert asked.task judges.report other.0);
 }
 
-pub refused_is_answer : (asked : Asked) (i b : List ℕ) (r : Refusal) (line : List ℕ) → asked.task ≡ tasks.Pass → length i ≤ 16777216
-    → line ≡ refusal_line r → IsRefused b r → IsAnswer (Some asked) i b (answer (refusal_status r) line)
-refused_is_answer asked i b r line is fits written told = record {
-  answers = told.0;
-  are_answers = told.1;
+pub refused_is_answer : (asked : Asked) (i b : List ℕ) (answers : List Next) (r : Refusal) (line : List ℕ) → JudgesFile asked.task → Fits i
+    → AreAnswers b answers → line ≡ refusal_line r → IsRefused answers r → IsAnswer (Some asked) i b (answer (refusal_status r) line)
+refused_is_answer asked i b answers r line judges fits are written is = record {
+  answers = answers;
+  are_answers = are;
   usage = λ none. cc;
   too_long = λ _ long. absurd (omega (arith, long, fits));
   refused = λ s _ _ found.
-      let same : r ≡ s = let e = sym told.2 ∙ found in cc in
+      let same : r ≡ s = let e = sym is ∙ found in cc in
       subst (λ (x : Refusal). answer (refusal_status r) line ≡ refusal_answer x) same (ap (λ t. answer (refusal_status r) t) written);
-  report = λ sources _ _ none. let e = sym told.2 ∙ none in cc;
-  dump = λ other. absurd (not_dump asked.task is other);
-  convert = λ to other. absurd (not_convert asked.task is other.0);
+  report = λ sources _ _ none. let e = sym is ∙ none in cc;
+  dump = λ other. absurd (not_dump asked.task judges.report other);
+  convert = λ to other. absurd (not_convert asked.task judges.report other.0);
 }
 
-pub report_is_answer : (asked : Asked) (i b : List ℕ) (a : Answer) → asked.task ≡ tasks.Pass → length i ≤ 16777216
-    → IsReport i b asked.sources a → IsAnswer (Some asked) i b a
-report_is_answer asked i b a is fits reported = record {
-  answers = first_answers reported.harts reported.wide reported.records ++ End (length reported.records) ∷ [];
-  are_answers = reported.file;
+-- a stream with a report is not refused
+reported_is_whole : (image : List ℕ) (answers : List Next) (sources : Bool) (a : Answer) → IsReport image answers sources a → refusal_in answers ≡ None
+reported_is_whole image answers sources a reported = ap refusal_in reported.whole ∙ not_refused reported.records (length reported.records) []
+
+pub report_is_answer : (asked : Asked) (i b : List ℕ) (answers : List Next) (a : Answer) → JudgesFile asked.task → Fits i → AreAnswers b answers
+    → IsReport i answers asked.sources a → IsAnswer (Some asked) i b a
+report_is_answer asked i b answers a judges fits are reported = record {
+  answers = answers;
+  are_answers = are;
   usage = λ nothing. cc;
   too_long = λ _ long. absurd (omega (arith, long, fits));
-  refused = λ s _ _ found. let e = sym (not_refused reported.records (length reported.records) []) ∙ found in cc;
-  report = λ sources asks _ _. subst (λ (x : Bool). IsReport i b x a) asks.1 reported;
-  dump = λ other. absurd (not_dump asked.task is other);
-  convert = λ to other. absurd (not_convert asked.task is other.0);
+  refused = λ s _ _ found. let e = sym (reported_is_whole i answers asked.sources a reported) ∙ found in cc;
+  report = λ sources asks _ _. subst (λ (x : Bool). IsReport i answers x a) asks.1 reported;
+  dump = λ other. absurd (not_dump asked.task judges.report other);
+  convert = λ to other. absurd (not_convert asked.task judges.report other.0);
 }
 
 -- ---- statuses
@@ -119,130 +124,172 @@ at_8 (Limit what number) e = (what, number, refl)
 at_8 ReadFault e = cc
 at_8 OutOfMemory e = cc
 
+is_not_6 : (r : Refusal) → refusal_status r ≡ 6 → ⊥
+is_not_6 (Malformed offset) e = cc
+is_not_6 (Limit what number) e = cc
+is_not_6 ReadFault e = cc
+is_not_6 OutOfMemory e = cc
+
 -- ---- the run
 
-own_may : (asked : Option Asked) (image probes : Option (List ℕ)) (a : Answer) → WhereTold asked image probes (λ i b. IsAnswer asked i b a)
-    → WhereTold asked image probes (λ i b. (status : ℕ) × IsAnswer asked i b (answer status a.text))
-own_may asked image probes a h = where_map asked image probes (λ i b. IsAnswer asked i b a) (λ i b. (status : ℕ) × IsAnswer asked i b (answer status a.text)) h (λ i b said. (a.status, said))
+-- the sink of a reply that is not written yet
+abbrev all_of : List ℕ → Outside
+all_of text = outside (Some []) (Some text) 0 0
 
-may_write : (asked : Option Asked) (image probes : Option (List ℕ)) (image_old image_new probes_old probes_new : ℕ) (a : Answer)
-    → CameOf asked image probes image_old image_new probes_old probes_new a
-    → MayWrite asked image probes (Rose image_old image_new) (Rose probes_old probes_new) a.text
-may_write asked image probes image_old image_new probes_old probes_new a came =
+-- what such a sink was given is the text
+same_text : (text given : List ℕ) → IsGiven (all_of text) given → text ≡ given
+same_text text given is = same_Some text given is
+
+to_given : (out : Outside) (text given : List ℕ) → IsGiven (all_of text) given → IsGiven out text → IsGiven out given
+to_given out text given is put = subst (λ (t : List ℕ). IsGiven out t) (same_text text given is) put
+
+-- and it has not failed
+has_not_failed : (text : List ℕ) → HasFailed (all_of text) → ⊥
+has_not_failed text rose = either rose (λ e. omega (arith, e)) (λ e. cc)
+
+may_write : (asked : Option Asked) (image probes : Outside) (a : Answer) (came : CameOf asked image probes a) → MayWrite asked image probes came.told a.text
+may_write asked image probes a came =
     elim (cases_eq a.status 5) [
-      | inl five ↦ either (came.read_fault five) (λ f. inr (inl f)) (λ f. inr (inr (inl (f.0, inl f.1))))
+      | inl five ↦
+          either (came.read_fault five)
+          (λ f. inr (inl (f.0, f.1, same_text a.text _ f.2)))
+          (λ f. inr (inr (inl (f.0, subst (λ (t : List ℕ). StopsWith read_fault_line asked came.told t) (sym (same_text a.text f.3.0 f.3.2)) f.3.1))))
       | inr not_five ↦
           elim (cases_eq a.status 7) [
-            | inl seven ↦ inr (inr (inr (inl (came.memory seven))))
-            | inr not_seven ↦ inl (own_may asked image probes a (came.own not_five not_seven))
+            | inl seven ↦
+                let m = came.memory seven in
+                inr (inr (inr (subst (λ (t : List ℕ). StopsWith memory_line asked came.told t) (sym (same_text a.text m.0 m.2)) m.1)))
+            | inr not_seven ↦
+                inl (where_map asked image.before probes.before
+                (λ i b. (text : List ℕ) × IsGiven (all_of a.text) text × IsAnswer asked i b (answer a.status text))
+                (λ i b. (status : ℕ) × IsAnswer asked i b (answer status a.text))
+                (came.whole not_five (λ six. has_not_failed a.text (came.write_fault six)) not_seven)
+                (λ i b said. (a.status, subst (λ (t : List ℕ). IsAnswer asked i b (answer a.status t)) (sym (same_text a.text said.0 said.1)) said.2)))
           ]
     ]
 
 not_six : {status : ℕ} → (status ≡ 4) ⊎ (status ≡ 8) → status ≢ 6
 not_six refused = λ six. either refused (λ e. cc) (λ e. cc)
 
-pub ran_of_reply : (asked : Option Asked) (image probes : Option (List ℕ)) (image_old image_new probes_old probes_new out_old out_new : ℕ) (before after : Option (List ℕ)) (a : Answer) (status : ℕ)
-    → CameOf asked image probes image_old image_new probes_old probes_new a
-    → IsPut a out_old out_new before after status
-    → Ran asked image probes image_old image_new probes_old probes_new out_old out_new before after status
-ran_of_reply asked image probes image_old image_new probes_old probes_new out_old out_new before after a status came put = record {
+pub ran_of_reply : (asked : Option Asked) (image probes out : Outside) (a : Answer) (status : ℕ)
+    → CameOf asked image probes a → IsPut a out status → Ran asked image probes out status
+ran_of_reply asked image probes out a status came put = record {
+  told = came.told;
+  are_told = came.are_told;
   whole = λ five six seven.
       let w = put.whole six in
-      where_map asked image probes (λ i b. IsAnswer asked i b a) (λ i b. (text : List ℕ) × Appends before text after × IsAnswer asked i b (answer status text))
-      (came.own (λ e. five (w.0 ∙ e)) (λ e. seven (w.0 ∙ e)))
-      (λ i b said. (a.text, w.1, subst (λ (n : ℕ). IsAnswer asked i b (answer n a.text)) (sym w.0) said));
+      where_map asked image.before probes.before
+      (λ i b. (text : List ℕ) × IsGiven (all_of a.text) text × IsAnswer asked i b (answer a.status text))
+      (λ i b. (text : List ℕ) × IsGiven out text × IsAnswer asked i b (answer status text))
+      (came.whole (λ e. five (w.0 ∙ e)) (λ e. six (w.0 ∙ e)) (λ e. seven (w.0 ∙ e)))
+      (λ i b said. (said.0, to_given out a.text said.0 said.1 w.1, subst (λ (n : ℕ). IsAnswer asked i b (answer n said.0)) (sym w.0) said.2));
   usage = λ two.
       let w = put.whole (λ e. cc) in
       let u = came.usage (sym w.0 ∙ two) in
-      (u.0, subst (λ (text : List ℕ). Appends before text after) u.1 w.1);
+      (u.0, to_given out a.text _ u.1 w.1);
   usage_comes = λ none six seven.
       let w = put.whole six in
-      w.0 ∙ came.usage_comes none (λ e. seven (w.0 ∙ e));
+      w.0 ∙ came.usage_comes none (λ e. six (w.0 ∙ e)) (λ e. seven (w.0 ∙ e));
   too_long = λ three.
       let w = put.whole (λ e. cc) in
       let t = came.too_long (sym w.0 ∙ three) in
-      (t.0, t.1, subst (λ (text : List ℕ). Appends before text after) t.2 w.1);
-  too_long_comes = λ asks long five six seven.
+      (t.0, t.1, to_given out a.text _ t.2 w.1);
+  too_long_comes = λ asks long calm six seven.
       let w = put.whole six in
-      w.0 ∙ came.too_long_comes asks long (λ e. five (w.0 ∙ e)) (λ e. seven (w.0 ∙ e));
+      w.0 ∙ came.too_long_comes asks long calm (λ e. six (w.0 ∙ e)) (λ e. seven (w.0 ∙ e));
   malformed = λ four. let w = put.whole (λ e. cc) in came.malformed (sym w.0 ∙ four);
   limit = λ eight. let w = put.whole (λ e. cc) in came.limit (sym w.0 ∙ eight);
-  refused_line = λ asks refused.
-      let w = put.whole (not_six refused) in (
-        a.text,
-        subst (λ (n : ℕ). IfSome probes (λ b. (r : Refusal) × IsRefused b r × (answer n a.text ≡ refusal_answer r))) (sym w.0)
-            (came.refused_line asks (subst (λ (n : ℕ). (n ≡ 4) ⊎ (n ≡ 8)) w.0 refused)),
-        w.1,
-      );
   refused_comes = λ r asks found three five six seven.
       let w = put.whole six in
-      w.0 ∙ came.refused_comes r asks found (λ e. three (w.0 ∙ e)) (λ e. five (w.0 ∙ e)) (λ e. seven (w.0 ∙ e));
+      w.0 ∙ came.refused_comes r asks found (λ e. three (w.0 ∙ e)) (λ e. five (w.0 ∙ e)) (λ e. six (w.0 ∙ e)) (λ e. seven (w.0 ∙ e));
+  refused_line = λ asks refused.
+      let w = put.whole (not_six refused) in
+      let l = came.refused_line asks (subst (λ (n : ℕ). (n ≡ 4) ⊎ (n ≡ 8)) w.0 refused) in (
+        l.0,
+        subst (λ (n : ℕ). IfSome came.told (λ answers. (r : Refusal) × IsRefused answers r × (answer n l.0 ≡ refusal_answer r))) (sym w.0) l.1,
+        to_given out a.text l.0 l.2 w.1,
+      );
   read_fault = λ five.
       let w = put.whole (λ e. cc) in
       either (came.read_fault (sym w.0 ∙ five))
-      (λ f. inl (f.0, f.1, subst (λ (text : List ℕ). Appends before text after) f.2 w.1))
-      (λ f. inr (f.0, read_fault_line, inl refl, subst (λ (text : List ℕ). Appends before text after) f.1 w.1));
+      (λ f. inl (f.0, f.1, to_given out a.text _ f.2 w.1))
+      (λ f. inr (f.0, f.1, f.2, (f.3.0, f.3.1, to_given out a.text f.3.0 f.3.2 w.1)));
   memory = λ seven.
       let w = put.whole (λ e. cc) in
-      (memory_line, inl refl, subst (λ (text : List ℕ). Appends before text after) (came.memory (sym w.0 ∙ seven)) w.1);
+      let m = came.memory (sym w.0 ∙ seven) in
+      (m.0, m.1, to_given out a.text m.0 m.2 w.1);
   write_fault = λ six. (put.fault six).0;
-  write_fault_front = λ six. (a.text, may_write asked image probes image_old image_new probes_old probes_new a came, (put.fault six).1);
+  write_fault_front = λ six. (a.text, may_write asked image probes a came, (put.fault six).1);
 }
 
 -- ---- the replies
 
-asks_nothing : (asked : Option Asked) → asked ≡ None → IsSome asked → ⊥
-asks_nothing None none asks = cc
-asks_nothing (Some q) none asks = cc
+-- the answer as it is given to such a sink
+abbrev Said : Asked → Answer → List ℕ → List ℕ → Type 0
+Said asked a i b = (text : List ℕ) × IsGiven (all_of a.text) text × IsAnswer (Some asked) i b (answer a.status text)
 
-asks_no_check : (asked : Option Asked) → asked ≡ None → AsksFor tasks.Pass asked → ⊥
-asks_no_check None none asks = absurd asks
-asks_no_check (Some q) none asks = cc
+asks_nothing : (asked : Option Asked) (P : Asked → Type 0) → asked ≡ None → IsSomeAnd asked P → ⊥
+asks_nothing None P none asks = asks
+asks_nothing (Some q) P none asks = cc
 
-pub of_usage : (asked : Option Asked) (image probes : Option (List ℕ)) (image_old image_new probes_old probes_new : ℕ) → asked ≡ None → CameOf asked image probes image_old image_new probes_old probes_new usage_answer
-of_usage asked image probes image_old image_new probes_old probes_new none = record {
-  own = λ _ _. subst (λ (q : Option Asked). WhereTold q image probes (λ i b. IsAnswer q i b usage_answer)) (sym none) (λ i b. usage_is_answer i b);
+pub of_usage : (asked : Option Asked) (image probes : Outside) → asked ≡ None → CameOf asked image probes usage_answer
+of_usage asked image probes none = record {
+  told = option_map answers_of probes.before;
+  are_told = are_told probes.before;
+  whole = λ _ _ _.
+      subst (λ (q : Option Asked). WhereTold q image.before probes.before (λ i b. (text : List ℕ) × IsGiven (all_of usage_answer.text) text × IsAnswer q i b (answer 2 text)))
+      (sym none) (λ i b. (usage_answer.text, refl, usage_is_answer i b));
   usage = λ _. (none, refl);
-  usage_comes = λ _ _. refl;
+  usage_comes = λ _ _ _. refl;
   too_long = λ e. cc;
-  too_long_comes = λ asks. absurd (asks_no_check asked none asks);
+  too_long_comes = λ asks. absurd (asks_nothing asked _ none asks);
   malformed = λ e. cc;
   limit = λ e. cc;
-  refused_line = λ asks. absurd (asks_no_check asked none asks);
-  refused_comes = λ r asks. absurd (asks_nothing asked none asks);
+  refused_comes = λ r asks. absurd (asks_nothing asked _ none asks);
+  refused_line = λ asks. absurd (asks_nothing asked _ none asks);
   read_fault = λ e. cc;
   memory = λ e. cc;
+  write_fault = λ e. cc;
+  write_fault_front = λ e. cc;
 }
 
-pub of_memory : (asked : Option Asked) (image probes : Option (List ℕ)) (image_old image_new probes_old probes_new : ℕ) → CameOf asked image probes image_old image_new probes_old probes_new memory_answer
-of_memory asked image probes image_old image_new probes_old probes_new = record {
-  own = λ _ seven. absurd (seven refl);
+pub of_memory : (asked : Option Asked) (image probes : Outside) → CameOf asked image probes memory_answer
+of_memory asked image probes = record {
+  told = option_map answers_of probes.before;
+  are_told = are_told probes.before;
+  whole = λ _ _ seven. absurd (seven refl);
   usage = λ e. cc;
-  usage_comes = λ _ seven. absurd (seven refl);
+  usage_comes = λ _ _ seven. absurd (seven refl);
   too_long = λ e. cc;
-  too_long_comes = λ asks long five seven. absurd (seven refl);
+  too_long_comes = λ asks long calm six seven. absurd (seven refl);
   malformed = λ e. cc;
   limit = λ e. cc;
+  refused_comes = λ r asks found three five six seven. absurd (seven refl);
   refused_line = λ asks refused. absurd (either refused (λ e. cc) (λ e. cc));
-  refused_comes = λ r asks found three five seven. absurd (seven refl);
   read_fault = λ e. cc;
-  memory = λ _. refl;
+  memory = λ _. (memory_line, inl refl, refl);
+  write_fault = λ e. cc;
+  write_fault_front = λ e. cc;
 }
 
-pub of_image_fault : (asked : Asked) (image probes : Option (List ℕ)) (image_old image_new probes_old probes_new : ℕ) → asked.task ≡ tasks.Pass → Rose image_old image_new
-    → CameOf (Some asked) image probes image_old image_new probes_old probes_new image_fault_answer
-of_image_fault asked image probes image_old image_new probes_old probes_new is rose = record {
-  own = λ five. absurd (five refl);
+pub of_image_fault : (asked : Asked) (image probes : Outside) → JudgesFile asked.task → HasFailed image
+    → CameOf (Some asked) image probes image_fault_answer
+of_image_fault asked image probes judges failed = record {
+  told = option_map answers_of probes.before;
+  are_told = are_told probes.before;
+  whole = λ five. absurd (five refl);
   usage = λ e. cc;
   usage_comes = λ none. cc;
   too_long = λ e. cc;
-  too_long_comes = λ asks long five. absurd (five refl);
+  too_long_comes = λ asks long calm. absurd (calm failed);
   malformed = λ e. cc;
   limit = λ e. cc;
-  refused_line = λ asks refused. absurd (either refused (λ e. cc) (λ e. cc));
   refused_comes = λ r asks found three five. absurd (five refl);
-  read_fault = λ _. inl (rose, is, refl);
+  refused_line = λ asks refused. absurd (either refused (λ e. cc) (λ e. cc));
+  read_fault = λ _. inl (failed, judges.image_first, refl);
   memory = λ e. cc;
+  write_fault = λ e. cc;
+  write_fault_front = λ e. cc;
 }
 
 -- an image that was not loaded is too long
@@ -256,47 +303,52 @@ long bytes e = by_length (nat_le (length bytes) 16777216) refl
 fitting : (bytes i : List ℕ) → (let x : Result (List ℕ) ImageRefusal = Ok i in x ≡ loaded bytes) → bytes ≡ i
 fitting bytes i e = grind arith
 
-pub of_too_long : (asked : Asked) (image probes : Option (List ℕ)) (image_old image_new probes_old probes_new : ℕ) → asked.task ≡ tasks.Pass
-    → IfSome image (λ bytes. let x : Result (List ℕ) ImageRefusal = Err image_refusal.TooLong in x ≡ loaded bytes)
-    → CameOf (Some asked) image probes image_old image_new probes_old probes_new too_long_answer
-of_too_long asked image probes image_old image_new probes_old probes_new is told = record {
-  own = λ _ _. where_pass asked image probes (λ i b. IsAnswer (Some asked) i b too_long_answer) is
-      (some_map image _ _ told (λ i e. every i (long i e)));
+pub of_too_long : (asked : Asked) (image probes : Outside) → JudgesFile asked.task
+    → IfSome image.before (λ bytes. let x : Result (List ℕ) ImageRefusal = Err image_refusal.TooLong in x ≡ loaded bytes)
+    → CameOf (Some asked) image probes too_long_answer
+of_too_long asked image probes judges refused = record {
+  told = option_map answers_of probes.before;
+  are_told = are_told probes.before;
+  whole = λ _ _ _. where_judged asked image.before probes.before (Said asked too_long_answer) judges
+      (some_map image.before _ _ refused (λ i e. every i (long i e)));
   usage = λ e. cc;
   usage_comes = λ none. cc;
-  too_long = λ _. (is, some_map image _ _ told (λ i e. long i e), refl);
-  too_long_comes = λ _ _ _ _. refl;
+  too_long = λ _. (judges.image_first, some_map image.before _ _ refused (λ i e. long i e), refl);
+  too_long_comes = λ _ _ _ _ _. refl;
   malformed = λ e. cc;
   limit = λ e. cc;
-  refused_line = λ asks refused. absurd (either refused (λ e. cc) (λ e. cc));
   refused_comes = λ r asks found three. absurd (three refl);
+  refused_line = λ asks refused. absurd (either refused (λ e. cc) (λ e. cc));
   read_fault = λ e. cc;
   memory = λ e. cc;
+  write_fault = λ e. cc;
+  write_fault_front = λ e. cc;
 }
   where
-    every : (i : List ℕ) → IsTooLong i → IfSome probes (λ b. IsAnswer (Some asked) i b too_long_answer)
-    every i l = at probes
+    every : (i : List ℕ) → IsTooLong i → IfSome probes.before (λ b. Said asked too_long_answer i b)
+    every i l = at probes.before
       where
-        at : (o : Option (List ℕ)) → IfSome o (λ b. IsAnswer (Some asked) i b too_long_answer)
+        at : (o : Option (List ℕ)) → IfSome o (λ b. Said asked too_long_answer i b)
         at None = tt
-        at (Some b) = too_long_is_answer asked i b is l
+        at (Some b) = (too_long_answer.text, refl, too_long_is_answer asked i b judges l)
 
 -- ---- the reply to an image that was loaded
 
-one_refusal : (probes : Option (List ℕ)) (r s : Refusal) → IfSome probes (λ b. IsRefused b r) → IsSomeAnd probes (λ b. IsRefused b s) → r ≡ s
+one_refusal : (told : Option (List Next)) (r s : Refusal) → IfSome told (λ answers. IsRefused answers r) → IsSomeAnd told (λ answers. IsRefused answers s) → r ≡ s
 one_refusal None r s told found = absurd found
-one_refusal (Some b) r s told found =
-    let e = sym told.2 ∙ ap refusal_in (answers_are_one b told.0 found.0 told.1 found.1) ∙ found.2 in cc
+one_refusal (Some answers) r s told found = let e = sym told ∙ found in cc
 
-no_refusal : (probes : Option (List ℕ)) (i : List ℕ) (sources : Bool) (a : Answer) (s : Refusal) → IfSome probes (λ b. IsReport i b sources a) → IsSomeAnd probes (λ b. IsRefused b s) → ⊥
+no_refusal : (told : Option (List Next)) (i : List ℕ) (sources : Bool) (a : Answer) (s : Refusal) → IfSome told (λ answers. IsReport i answers sources a)
+    → IsSomeAnd told (λ answers. IsRefused answers s) → ⊥
 no_refusal None i sources a s told found = absurd found
-no_refusal (Some b) i sources a s told found =
-    let same = answers_are_one b (first_answers told.harts told.wide told.records ++ End (length told.records) ∷ []) found.0 told.file found.1 in
-    let e = sym (not_refused told.records (length told.records) []) ∙ ap refusal_in same ∙ found.2 in cc
+no_refusal (Some answers) i sources a s told found = let e = sym (reported_is_whole i answers sources a told) ∙ found in cc
 
-is_not_longer : (i : List ℕ) (image : Option (List ℕ)) → length i ≤ 16777216 → IfSome image (λ bytes. bytes ≡ i) → IsSomeAnd image IsTooLong → ⊥
+is_not_longer : (i : List ℕ) (image : Option (List ℕ)) → Fits i → IfSome image (λ bytes. bytes ≡ i) → IsSomeAnd image IsTooLong → ⊥
 is_not_longer i None fits known longer = absurd longer
 is_not_longer i (Some bytes) fits known longer = omega (arith, fits, longer, ap length known)
+
+also_fits : (i : List ℕ) (image : Option (List ℕ)) → Fits i → IfSome image (λ bytes. bytes ≡ i) → IfSome image Fits
+also_fits i image fits known = some_map image (λ bytes. bytes ≡ i) Fits known (λ bytes same. subst (λ (z : List ℕ). Fits z) (sym same) fits)
 
 not_five : {status : ℕ} → (status ≡ 4) ⊎ (status ≡ 8) → status ≢ 5
 not_five refused = λ five. either refused (λ e. cc) (λ e. cc)
@@ -304,72 +356,92 @@ not_five refused = λ five. either refused (λ e. cc) (λ e. cc)
 not_seven : {status : ℕ} → (status ≡ 4) ⊎ (status ≡ 8) → status ≢ 7
 not_seven refused = λ seven. either refused (λ e. cc) (λ e. cc)
 
-of_refusal : (asked : Asked) (i : List ℕ) (image probes : Option (List ℕ)) (image_old image_new probes_old probes_new : ℕ) (r : Refusal) (line : List ℕ) → asked.task ≡ tasks.Pass
-    → length i ≤ 16777216 → IfSome image (λ bytes. bytes ≡ i)
-    → line ≡ refusal_line r → (r ≡ ReadFault → Rose probes_old probes_new) → (r ≢ ReadFault → r ≢ OutOfMemory → IfSome probes (λ b. IsRefused b r))
-    → CameOf (Some asked) image probes image_old image_new probes_old probes_new (answer (refusal_status r) line)
-of_refusal asked i image probes image_old image_new probes_old probes_new r line is fits known written fault told = record {
-  own = λ five seven. where_pass asked image probes (λ i b. IsAnswer (Some asked) i b (answer (refusal_status r) line)) is
-      (both_told image probes (λ bytes. bytes ≡ i) (λ b. IsRefused b r) (λ i b. IsAnswer (Some asked) i b (answer (refusal_status r) line)) known
-      (told (λ e. five (ap refusal_status e)) (λ e. seven (ap refusal_status e)))
-      (λ bytes b same found. refused_is_answer asked bytes b r line is (subst (λ (z : List ℕ). length z ≤ 16777216) (sym same) fits) written found));
+of_refusal : (asked : Asked) (i : List ℕ) (image probes : Outside) (told : Option (List Next)) (r : Refusal) (line : List ℕ) → JudgesFile asked.task
+    → Fits i → IfSome image.before (λ bytes. bytes ≡ i) → AreToldOf probes.before told
+    → line ≡ refusal_line r → (r ≡ ReadFault → HasFailed probes) → (r ≢ ReadFault → r ≢ OutOfMemory → IfSome told (λ answers. IsRefused answers r))
+    → CameOf (Some asked) image probes (answer (refusal_status r) line)
+of_refusal asked i image probes told r line judges fits known tells written fault is = record {
+  told = told;
+  are_told = tells;
+  whole = λ five six seven. where_judged asked image.before probes.before (Said asked (answer (refusal_status r) line)) judges
+      (both_told image.before probes.before (λ bytes. bytes ≡ i) (λ b. (answers : List Next) × AreAnswers b answers × IsRefused answers r) (Said asked (answer (refusal_status r) line)) known
+      (of_told probes.before told (λ answers. IsRefused answers r) (λ b. (answers : List Next) × AreAnswers b answers × IsRefused answers r) tells
+      (is (λ e. five (ap refusal_status e)) (λ e. seven (ap refusal_status e))) (λ b answers are refused. (answers, are, refused)))
+      (λ bytes b same found. (line, refl, refused_is_answer asked bytes b found.0 r line judges (subst (λ (z : List ℕ). Fits z) (sym same) fits) found.1 written found.2)));
   usage = λ two. absurd (omega (arith, refusal_is_great r, two));
   usage_comes = λ none. cc;
   too_long = λ three. absurd (omega (arith, refusal_is_great r, three));
-  too_long_comes = λ asks longer. absurd (is_not_longer i image fits known longer);
+  too_long_comes = λ asks longer. absurd (is_not_longer i image.before fits known longer);
   malformed = λ four.
       let m = at_4 r four in
-      (refl, some_map probes _ _ (told (λ e. cc) (λ e. cc)) (λ b found. (m.0, subst (λ (x : Refusal). IsRefused b x) m.1 found)));
+      (judges.file, some_map told _ _ (is (λ e. cc) (λ e. cc)) (λ answers found. (m.0, subst (λ (x : Refusal). IsRefused answers x) m.1 found)));
   limit = λ eight.
       let m = at_8 r eight in
-      (refl, some_map probes _ _ (told (λ e. cc) (λ e. cc)) (λ b found. (m.0, m.1, subst (λ (x : Refusal). IsRefused b x) m.2 found)));
-  refused_line = λ asks refused. some_map probes _ _ (told (λ e. not_five refused (ap refusal_status e)) (λ e. not_seven refused (ap refusal_status e)))
-      (λ b found. (r, found, ap (λ t. answer (refusal_status r) t) written));
-  refused_comes = λ s asks found three five seven.
-      ap refusal_status (one_refusal probes r s (told (λ e. five (ap refusal_status e)) (λ e. seven (ap refusal_status e))) found);
-  read_fault = λ five. let e = at_5 r five in inr (fault e, written ∙ ap refusal_line e);
-  memory = λ seven. written ∙ ap refusal_line (at_7 r seven);
+      (judges.file, some_map told _ _ (is (λ e. cc) (λ e. cc)) (λ answers found. (m.0, m.1, subst (λ (x : Refusal). IsRefused answers x) m.2 found)));
+  refused_comes = λ s asks found three five six seven.
+      ap refusal_status (one_refusal told r s (is (λ e. five (ap refusal_status e)) (λ e. seven (ap refusal_status e))) found);
+  refused_line = λ asks refused. (
+    line,
+    some_map told _ _ (is (λ e. not_five refused (ap refusal_status e)) (λ e. not_seven refused (ap refusal_status e)))
+        (λ answers found. (r, found, ap (λ t. answer (refusal_status r) t) written)),
+    refl,
+  );
+  read_fault = λ five.
+      let e = at_5 r five in
+      inr (fault e, judges.file, (λ _. also_fits i image.before fits known), (line, inl (written ∙ ap refusal_line e), refl));
+  memory = λ seven. (line, inl (written ∙ ap refusal_line (at_7 r seven)), refl);
+  write_fault = λ six. absurd (is_not_6 r six);
+  write_fault_front = λ six. absurd (is_not_6 r six);
 }
 
-of_report : (asked : Asked) (i : List ℕ) (image probes : Option (List ℕ)) (image_old image_new probes_old probes_new : ℕ) (v : Verdict) (text : List ℕ) → asked.task ≡ tasks.Pass
-    → length i ≤ 16777216 → IfSome image (λ bytes. bytes ≡ i)
-    → IfSome probes (λ b. IsReport i b asked.sources (answer (verdict_status v) text))
-    → CameOf (Some asked) image probes image_old image_new probes_old probes_new (answer (verdict_status v) text)
-of_report asked i image probes image_old image_new probes_old probes_new v text is fits known told = record {
-  own = λ _ _. where_pass asked image probes (λ i b. IsAnswer (Some asked) i b (answer (verdict_status v) text)) is
-      (both_told image probes (λ bytes. bytes ≡ i) (λ b. IsReport i b asked.sources (answer (verdict_status v) text)) (λ i b. IsAnswer (Some asked) i b (answer (verdict_status v) text)) known told
-      (λ bytes b same said. report_is_answer asked bytes b (answer (verdict_status v) text) is (subst (λ (z : List ℕ). length z ≤ 16777216) (sym same) fits)
-      (subst (λ (z : List ℕ). IsReport z b asked.sources (answer (verdict_status v) text)) (sym same) said)));
+of_report : (asked : Asked) (i : List ℕ) (image probes : Outside) (told : Option (List Next)) (v : Verdict) (text : List ℕ) → JudgesFile asked.task
+    → Fits i → IfSome image.before (λ bytes. bytes ≡ i) → AreToldOf probes.before told
+    → IfSome told (λ answers. IsReport i answers asked.sources (answer (verdict_status v) text))
+    → CameOf (Some asked) image probes (answer (verdict_status v) text)
+of_report asked i image probes told v text judges fits known tells is = record {
+  told = told;
+  are_told = tells;
+  whole = λ _ _ _. where_judged asked image.before probes.before (Said asked (answer (verdict_status v) text)) judges
+      (both_told image.before probes.before (λ bytes. bytes ≡ i) (λ b. (answers : List Next) × AreAnswers b answers × IsReport i answers asked.sources (answer (verdict_status v) text))
+      (Said asked (answer (verdict_status v) text)) known
+      (of_told probes.before told (λ answers. IsReport i answers asked.sources (answer (verdict_status v) text))
+      (λ b. (answers : List Next) × AreAnswers b answers × IsReport i answers asked.sources (answer (verdict_status v) text)) tells is (λ b answers are said. (answers, are, said)))
+      (λ bytes b same found. (
+        text,
+        refl,
+        report_is_answer asked bytes b found.0 (answer (verdict_status v) text) judges (subst (λ (z : List ℕ). Fits z) (sym same) fits) found.1
+            (subst (λ (z : List ℕ). IsReport z found.0 asked.sources (answer (verdict_status v) text)) (sym same) found.2),
+      )));
   usage = λ e. absurd (omega (arith, verdict_is_small v, e));
   usage_comes = λ none. cc;
   too_long = λ e. absurd (omega (arith, verdict_is_small v, e));
-  too_long_comes = λ asks longer. absurd (is_not_longer i image fits known longer);
+  too_long_comes = λ asks longer. absurd (is_not_longer i image.before fits known longer);
   malformed = λ e. absurd (omega (arith, verdict_is_small v, e));
   limit = λ e. absurd (omega (arith, verdict_is_small v, e));
+  refused_comes = λ s asks found. absurd (no_refusal told i asked.sources (answer (verdict_status v) text) s is found);
   refused_line = λ asks refused. absurd (either refused (λ e. omega (arith, verdict_is_small v, e)) (λ e. omega (arith, verdict_is_small v, e)));
-  refused_comes = λ s asks found. absurd (no_refusal probes _ _ _ s told found);
   read_fault = λ e. absurd (omega (arith, verdict_is_small v, e));
   memory = λ e. absurd (omega (arith, verdict_is_small v, e));
+  write_fault = λ e. absurd (omega (arith, verdict_is_small v, e));
+  write_fault_front = λ e. absurd (omega (arith, verdict_is_small v, e));
 }
 
-of_known : (asked : Asked) (i : List ℕ) (image probes : Option (List ℕ)) (image_old image_new probes_old probes_new : ℕ) (r : Reply) → asked.task ≡ tasks.Pass
-    → length i ≤ 16777216 → IfSome image (λ bytes. bytes ≡ i)
-    → IsPassReply i asked.sources probes probes_old probes_new r
-    → CameOf (Some asked) image probes image_old image_new probes_old probes_new (answer_by r)
-of_known asked i image probes image_old image_new probes_old probes_new reply.Usage is fits known said = absurd said
-of_known asked i image probes image_old image_new probes_old probes_new reply.TooLong is fits known said = absurd said
-of_known asked i image probes image_old image_new probes_old probes_new reply.ReadFaultImage is fits known said = absurd said
-of_known asked i image probes image_old image_new probes_old probes_new (reply.Refused r line) is fits known said =
-    of_refusal asked i image probes image_old image_new probes_old probes_new r (string_bytes line) is fits known said.0 said.1 said.2
-of_known asked i image probes image_old image_new probes_old probes_new (reply.Report v text) is fits known said =
-    of_report asked i image probes image_old image_new probes_old probes_new v text is fits known said
-of_known asked i image probes image_old image_new probes_old probes_new reply.OutOfMemory is fits known said =
-    of_memory (Some asked) image probes image_old image_new probes_old probes_new
+of_known : (asked : Asked) (i : List ℕ) (image probes : Outside) (told : Option (List Next)) (r : Reply) → JudgesFile asked.task
+    → Fits i → IfSome image.before (λ bytes. bytes ≡ i) → AreToldOf probes.before told
+    → IsPassReply i asked.sources told probes.faults_before probes.faults_after r → CameOf (Some asked) image probes (answer_by r)
+of_known asked i image probes told reply.Usage judges fits known tells said = absurd said
+of_known asked i image probes told reply.TooLong judges fits known tells said = absurd said
+of_known asked i image probes told reply.ReadFaultImage judges fits known tells said = absurd said
+of_known asked i image probes told (reply.Refused r line) judges fits known tells said =
+    of_refusal asked i image probes told r (string_bytes line) judges fits known tells said.0 said.1 said.2
+of_known asked i image probes told (reply.Report v text) judges fits known tells said =
+    of_report asked i image probes told v text judges fits known tells said
+of_known asked i image probes told reply.OutOfMemory judges fits known tells said = of_memory (Some asked) image probes
 
-pub of_pass : (asked : Asked) (i : List ℕ) (image probes : Option (List ℕ)) (image_old image_new probes_old probes_new : ℕ) (sources : Bool) (r : Reply) → asked.task ≡ tasks.Pass → asked.sources ≡ sources
-    → length i ≤ 16777216 → IfSome image (λ bytes. let x : Result (List ℕ) ImageRefusal = Ok i in x ≡ loaded bytes)
-    → IsPassReply i sources probes probes_old probes_new r
-    → CameOf (Some asked) image probes image_old image_new probes_old probes_new (answer_by r)
-of_pass asked i image probes image_old image_new probes_old probes_new sources r is wants fits loads said =
-    of_known asked i image probes image_old image_new probes_old probes_new r is fits (some_map image _ _ loads (λ bytes e. fitting bytes i e))
-    (subst (λ (s : Bool). IsPassReply i s probes probes_old probes_new r) (sym wants) said)
+pub of_pass : (asked : Asked) (i : List ℕ) (image probes : Outside) (sources : Bool) (r : Reply) → JudgesFile asked.task → asked.sources ≡ sources
+    → Fits i → IfSome image.before (λ bytes. let x : Result (List ℕ) ImageRefusal = Ok i in x ≡ loaded bytes)
+    → (told : Option (List Next)) × AreToldOf probes.before told × IsPassReply i sources told probes.faults_before probes.faults_after r
+    → CameOf (Some asked) image probes (answer_by r)
+of_pass asked i image probes sources r judges wants fits loads said =
+    of_known asked i image probes said.0 r judges fits (some_map image.before _ _ loads (λ bytes e. fitting bytes i e)) said.1
+    (subst (λ (s : Bool). IsPassReply i s said.0 probes.faults_before probes.faults_after r) (sym wants) said.2)

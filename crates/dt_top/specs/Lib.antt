@@ -2,3 +2,4 @@ pub mod Answer
 pub mod Laws
 pub mod Replies
 pub mod Running
+pub mod Tasks

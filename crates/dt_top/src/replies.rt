@@ -1,10 +1,12 @@
 //! What the program comes to, before it writes anything.
-ghost use Rattle.std.specs.Prelude.{◌≡◌, ◌≤◌, IfOk, Some};
+ghost use Rattle.std.specs.Prelude.{◌≡◌, ◌≤◌, IfOk, List, Option, Some};
 ghost use Rattle.std.specs.String.{string_bytes};
-ghost use Rattle.dt_words.specs.declared.commands.Task.TheVariants.{Pass};
+ghost use Rattle.dt_record.specs.declared.streams.Next.{Next};
+ghost use Rattle.dt_probe_file.specs.Told.{AreToldOf};
 ghost use Rattle.dt_words.specs.Table.{Asked};
 ghost use Rattle.dt_top.specs.Answer.{refusal_line, refusal_status, verdict_status};
-ghost use Rattle.dt_top.specs.Replies.{CameOf, IsPassReply, IsRefusalReply, IsReportReply, answer_by};
+ghost use Rattle.dt_top.specs.Replies.{CameOf, IsPassReply, IsRefusalReply, IsReportReply, JudgesFile, answer_by};
+ghost use Rattle.dt_top.specs.Running.{outside};
 
 use dt_image::{Image, ImageRefusal, load};
 use dt_pass::pass;
@@ -121,7 +123,8 @@ fn refusal_reply(alloc: Global, refusal: Refusal) -> Reply
 
 /// The reply to an image and a probe file.
 fn pass_reply<P: Source>(alloc: Global, sources: bool, image: &Image, probes: &mut P) -> Reply
-    ensures said { IsPassReply image.now sources (P.left probes.old) (P.faults probes.old) (P.faults probes.new) result }
+    ensures said { (told : Option (List Next)) × AreToldOf (P.left probes.old) told
+        × IsPassReply image.now sources told (P.faults probes.old) (P.faults probes.new) result }
     ensures never_falls { P.faults probes.old ≤ P.faults probes.new }
 {
     let Ok(room) = Room::new(alloc) else {
@@ -144,9 +147,9 @@ pub fn check_reply<I: Source, P: Source>(
     image: &mut I,
     probes: &mut P,
 ) -> Reply
-    ensures came { (asked : Asked) → asked.task ≡ Pass → asked.sources ≡ sources
-        → CameOf (Some asked) (I.left image.old) (P.left probes.old)
-        (I.faults image.old) (I.faults image.new) (P.faults probes.old) (P.faults probes.new) (answer_by result) }
+    ensures came { (asked : Asked) → JudgesFile asked.task → asked.sources ≡ sources → CameOf (Some asked)
+        (outside (I.left image.old) (I.left image.new) (I.faults image.old) (I.faults image.new))
+        (outside (P.left probes.old) (P.left probes.new) (P.faults probes.old) (P.faults probes.new)) (answer_by result) }
     ensures image_never_falls { I.faults image.old ≤ I.faults image.new }
     ensures probes_never_falls { P.faults probes.old ≤ P.faults probes.new }
 {

@@ -1,11 +1,12 @@
 //! The runs of the tasks.
-ghost use Rattle.std.specs.Prelude.{◌≡◌, ◌≤◌, ℕ, List, Option, Some};
+ghost use Rattle.std.specs.Prelude.{◌≡◌, ◌≤◌, Some, true};
 ghost use Rattle.dt_convert.specs.Convert.{version_of};
-ghost use Rattle.dt_words.specs.declared.commands.Task.TheVariants.{Pass, Dump, Convert};
+ghost use Rattle.dt_words.specs.declared.commands.Task.TheVariants.{Dump, Convert};
 ghost use Rattle.dt_words.specs.Table.{Asked, asked_by};
 ghost use Rattle.dt_top.specs.Answer.{version_named};
-ghost use Rattle.dt_top.specs.Replies.{answer_by};
-ghost use Rattle.dt_top.specs.Running.{IsPut, Ran};
+ghost use Rattle.dt_top.specs.Replies.{IsPut, JudgesFile, answer_by};
+ghost use Rattle.dt_top.specs.Running.{Outside, Ran, outside};
+ghost use Rattle.dt_top.specs.Tasks.{an_image, asked_among, first_input, is_plain, reads_probes};
 
 use crate::replies::{Reply, check_reply};
 use dt_convert::{FileVersion, convert_probes};
@@ -17,7 +18,8 @@ use std::alloc::Global;
 
 /// Writes a reply, and gives the exit status.
 pub fn put_reply<O: Sink>(reply: &Reply, out: &mut O) -> u8
-    ensures put { IsPut (answer_by reply.now) (O.faults out.old) (O.faults out.new) (O.written out.old) (O.written out.new) result }
+    ensures put { IsPut (answer_by reply.now)
+        (outside (O.written out.old) (O.written out.new) (O.faults out.old) (O.faults out.new)) result }
     ensures never_falls { O.faults out.old ≤ O.faults out.new }
 {
     match write_all(out, reply.text()) {
@@ -34,10 +36,10 @@ fn run_pass<I: Source, P: Source, O: Sink>(
     probes: &mut P,
     out: &mut O,
 ) -> u8
-    ensures ran { (asked : Asked) → asked.task ≡ Pass → asked.sources ≡ sources
-        → Ran (Some asked) (I.left image.old) (P.left probes.old)
-        (I.faults image.old) (I.faults image.new) (P.faults probes.old) (P.faults probes.new) (O.faults out.old) (O.faults out.new)
-        (O.written out.old) (O.written out.new) result }
+    ensures ran { (asked : Asked) → JudgesFile asked.task → asked.sources ≡ sources → Ran (Some asked)
+        (outside (I.left image.old) (I.left image.new) (I.faults image.old) (I.faults image.new))
+        (outside (P.left probes.old) (P.left probes.new) (P.faults probes.old) (P.faults probes.new))
+        (outside (O.written out.old) (O.written out.new) (O.faults out.old) (O.faults out.new)) result }
     ensures image_never_falls { I.faults image.old ≤ I.faults image.new }
     ensures probes_never_falls { P.faults probes.old ≤ P.faults probes.new }
     ensures out_never_falls { O.faults out.old ≤ O.faults out.new }
@@ -48,10 +50,9 @@ fn run_pass<I: Source, P: Source, O: Sink>(
 
 /// Writes the records of a probe file.
 fn run_dump<P: Source, O: Sink>(alloc: Global, probes: &mut P, out: &mut O) -> u8
-    ensures ran { (asked : Asked) (image : Option (List ℕ)) (image_old image_new : ℕ) → asked.task ≡ Dump
-        → Ran (Some asked) image (P.left probes.old)
-        image_old image_new (P.faults probes.old) (P.faults probes.new) (O.faults out.old) (O.faults out.new)
-        (O.written out.old) (O.written out.new) result }
+    ensures ran { (asked : Asked) (image : Outside) → asked.task ≡ Dump → Ran (Some asked) image
+        (outside (P.left probes.old) (P.left probes.new) (P.faults probes.old) (P.faults probes.new))
+        (outside (O.written out.old) (O.written out.new) (O.faults out.old) (O.faults out.new)) result }
     ensures probes_never_falls { P.faults probes.old ≤ P.faults probes.new }
     ensures out_never_falls { O.faults out.old ≤ O.faults out.new }
 {
@@ -77,10 +78,9 @@ fn version_named(to: u8) -> FileVersion
 
 /// Writes a probe file in another version.
 fn run_convert<P: Source, O: Sink>(alloc: Global, to: u8, probes: &mut P, out: &mut O) -> u8
-    ensures ran { (asked : Asked) (image : Option (List ℕ)) (image_old image_new : ℕ) → asked.task ≡ Convert → asked.to ≡ to
-        → Ran (Some asked) image (P.left probes.old)
-        image_old image_new (P.faults probes.old) (P.faults probes.new) (O.faults out.old) (O.faults out.new)
-        (O.written out.old) (O.written out.new) result }
+    ensures ran { (asked : Asked) (image : Outside) → asked.task ≡ Convert → asked.to ≡ to → Ran (Some asked) image
+        (outside (P.left probes.old) (P.left probes.new) (P.faults probes.old) (P.faults probes.new))
+        (outside (O.written out.old) (O.written out.new) (O.faults out.old) (O.faults out.new)) result }
     ensures probes_never_falls { P.faults probes.old ≤ P.faults probes.new }
     ensures out_never_falls { O.faults out.old ≤ O.faults out.new }
 {
@@ -93,7 +93,7 @@ fn run_convert<P: Source, O: Sink>(alloc: Global, to: u8, probes: &mut P, out: &
     status
 }
 
-/// Does what a command says.
+/// Does what a command says, where it is one of the top call on one thread.
 pub fn run_command<I: Source, P: Source, O: Sink>(
     alloc: Global,
     command: &Command,
@@ -101,9 +101,14 @@ pub fn run_command<I: Source, P: Source, O: Sink>(
     probes: &mut P,
     out: &mut O,
 ) -> u8
-    ensures ran { Ran (Some (asked_by command.now)) (I.left image.old) (P.left probes.old)
-        (I.faults image.old) (I.faults image.new) (P.faults probes.old) (P.faults probes.new) (O.faults out.old) (O.faults out.new)
-        (O.written out.old) (O.written out.new) result }
+    ensures ran { Ran (asked_among is_plain (Some (asked_by command.now)))
+        (outside (I.left image.old) (I.left image.new) (I.faults image.old) (I.faults image.new))
+        (outside (P.left probes.old) (P.left probes.new) (P.faults probes.old) (P.faults probes.new))
+        (outside (O.written out.old) (O.written out.new) (O.faults out.old) (O.faults out.new)) result }
+    ensures image_stays { (is_plain command.now.task ≡ true → first_input command.now.task ≡ an_image → ⊥)
+        → image.new ≡ image.old }
+    ensures probes_stay { (is_plain command.now.task ≡ true → reads_probes command.now.task ≡ true → ⊥)
+        → probes.new ≡ probes.old }
     ensures image_never_falls { I.faults image.old ≤ I.faults image.new }
     ensures probes_never_falls { P.faults probes.old ≤ P.faults probes.new }
     ensures out_never_falls { O.faults out.old ≤ O.faults out.new }
@@ -112,5 +117,6 @@ pub fn run_command<I: Source, P: Source, O: Sink>(
         Task::Pass => run_pass(alloc, command.sources, image, probes, out),
         Task::Dump => run_dump(alloc, probes, out),
         Task::Convert => run_convert(alloc, command.to, probes, out),
+        Task::Check => put_reply(&Reply::Usage, out),
     }
 }

@@ -1,7 +1,8 @@
 //! Reports, and calls that fail. `checks/worked-rows` and `checks/commands` try the program over many
 //! more files and words.
 use crate::run_plain;
-use dt_source::{MemSink, MemSource};
+use dt_record::IMAGE_LIMIT;
+use dt_source::{Failed, MemSink, MemSource, Source};
 use std::alloc::{AllocError, Global};
 use std::process::Abort;
 use std::test::Fail;
@@ -9,6 +10,8 @@ use std::test::Fail;
 const PASS: &[&str] = &["pass", "IMAGE", "PROBES"];
 
 const DUMP: &[&str] = &["dump", "PROBES"];
+
+const CHECK: &[&str] = &["check", "IMAGE", "PROBES"];
 
 const TO_2: &[&str] = &["convert", "--to", "2", "PROBES"];
 
@@ -54,10 +57,30 @@ const CALM: Outside = Outside {
     room: 1000,
 };
 
-/// Runs the program on words, the image and a probe file.
-fn run(
+/// An image without bytes that counts how often it is read.
+#[derive(Debug, Drop)]
+struct Counting {
+    reads: u64,
+}
+
+impl Source for Counting {
+    ghost use Rattle.std.specs.Prelude.{None};
+
+    ghost left = { λ _. None };
+
+    ghost faults = { λ _. 0 };
+
+    fn read(&mut self, _buf: &mut [u8]) -> Result<usize, Failed> {
+        self.reads = self.reads.saturating_add(1);
+        Ok(0)
+    }
+}
+
+/// Runs the program on words, an image and a probe file.
+fn run_over<I: Source>(
     alloc: Global,
     words: &[&str],
+    image: &mut I,
     probes: &str,
     outside: Outside,
 ) -> Result<(u8, Vec<u8>), Fail> {
@@ -65,12 +88,10 @@ fn run(
     for word in words {
         all.push(String::from_str(alloc, word)?)?;
     }
-    let image = Vec::from_slice(alloc, IMAGE)?;
-    let mut image = MemSource::new(image, outside.piece, vec![in alloc; outside.image_fails]?);
     let probes = hex::decode(alloc, probes)?;
     let mut probes = MemSource::new(probes, outside.piece, vec![in alloc; outside.probes_fail]?);
     let mut out = MemSink::new(alloc, outside.room, vec![in alloc; outside.sink_fails]?)?;
-    let status = run_plain(alloc, &all, &mut image, &mut probes, &mut out);
+    let status = run_plain(alloc, &all, image, &mut probes, &mut out);
     Ok((status, Vec::from_slice(alloc, out.bytes())?))
 }
 
@@ -83,7 +104,10 @@ fn expect(
     status: u8,
     text: &[u8],
 ) -> Result<(), Fail> {
-    let (found, written) = run(rt.alloc(), words, probes, outside)?;
+    let image = Vec::from_slice(rt.alloc(), IMAGE)?;
+    let fails = vec![in rt.alloc(); outside.image_fails]?;
+    let mut image = MemSource::new(image, outside.piece, fails);
+    let (found, written) = run_over(rt.alloc(), words, &mut image, probes, outside)?;
     assert_eq!(rt; written.as_slice(), text, "{outside:?}");
     assert_eq!(rt; found, status, "{outside:?}");
     Ok(())
@@ -100,7 +124,34 @@ fn a_file_has_its_report(rt: HostRuntime) -> Result<(), Fail> {
         expect(&rt, PASS, TWICE_WRONG, outside, 4, b"MALFORMED offset=46\n")?;
         let two = hex::decode(rt.alloc(), FILE_2)?;
         expect(&rt, TO_2, FILE, outside, 0, &two)?;
+        expect(&rt, CHECK, FILE, outside, 2, b"USAGE\n")?;
     }
+    Ok(())
+}
+
+#[test]
+fn an_image_is_read_where_the_task_reads_one(rt: HostRuntime) -> Result<(), Fail> {
+    for (words, reads) in [(PASS, true), (DUMP, false), (TO_2, false), (CHECK, false)] {
+        let mut image = Counting { reads: 0 };
+        run_over(rt.alloc(), words, &mut image, FILE, CALM)?;
+        assert_eq!(rt; image.reads > 0, reads, "{words:?}");
+    }
+    Ok(())
+}
+
+#[test]
+fn an_image_that_is_too_long_comes_before_a_fault_of_the_probe_file(
+    rt: HostRuntime,
+) -> Result<(), Fail> {
+    let bytes = vec![in rt.alloc(); 0u8; IMAGE_LIMIT + 1]?;
+    let mut image = MemSource::new(bytes, IMAGE_LIMIT, Vec::new(rt.alloc()));
+    let outside = Outside {
+        probes_fail: 0,
+        ..CALM
+    };
+    let (status, text) = run_over(rt.alloc(), PASS, &mut image, FILE, outside)?;
+    assert_eq!(rt; text.as_slice(), b"IMAGE TOO LONG\n".as_slice());
+    assert_eq!(rt; status, 3);
     Ok(())
 }
 
@@ -139,6 +190,22 @@ fn the_first_refusal_of_a_file_decides(rt: HostRuntime) -> Result<(), Fail> {
             ..CALM
         };
         expect(&rt, PASS, TWICE_WRONG, outside, status, text.as_bytes())?;
+    }
+    // The first read gives the whole file, and the one behind it would fail.
+    let outside = Outside {
+        piece: 1000,
+        probes_fail: 1,
+        ..CALM
+    };
+    for words in [PASS, TO_2] {
+        expect(
+            &rt,
+            words,
+            TWICE_WRONG,
+            outside,
+            4,
+            b"MALFORMED offset=46\n",
+        )?;
     }
     Ok(())
 }

@@ -1,13 +1,15 @@
 -- From what `clap` says of a command and its matches to what the words ask for.
-use Rattle.std.proofs.Common.{◌≡◌, ◌∙◌, ℕ, true, false, List, [], ◌∷◌, Option, Some, None, Result, Ok, Err, inl, inr, refl, sym, ap, ap₂, subst, arith, ne_eqb}
-use Rattle.std.specs.Option.{option_map_or, unwrap_or}
-use Rattle.std.specs.Str.Parse.{ParsesUnsigned}
+use Rattle.std.proofs.Common.{◌≡◌, ◌≤◌, ◌&&◌, ◌∙◌, ℕ, Bool, true, false, List, [], ◌∷◌, Option, Some, None, inl, inr, refl, sym, ap, ap₂, subst, arith, ne_eqb, codes}
+use Rattle.std.specs.Option.{option_map_or}
+use Rattle.std.specs.Prelude.{nat_le}
+use Rattle.std.proofs.lemmas.Bool.{leb-true}
+use Rattle.clap.proofs.WalkLemmas.{both}
 use Rattle.clap.specs.Faults.{fault_of, is_simple_and_free}
 use Rattle.clap.specs.Kinds.{HasKind, IsAmong, Kinds}
-use Rattle.clap.specs.Matches.{ReadsOne, found_of}
+use Rattle.clap.specs.Matches.{found_of}
 use Rattle.clap.specs.Simple.{App, HasMatchesOf, app_of, is_simple, with_rule}
 use Rattle.clap.specs.Values.{kind_of}
-use Rattle.clap.specs.Walk.{Rule, Text, byte_or_zero, is_empty, rows_of, rule_of}
+use Rattle.clap.specs.Walk.{Row, Rule, Text, byte_or_zero, first_of, is_empty, rows_of, rule_of}
 use Rattle.clap.specs.Built.{AddsArg}
 use Rattle.clap.specs.declared.builder.arg.Arg.{Arg}
 use Rattle.clap.specs.declared.builder.command.Command.{Command}
@@ -16,10 +18,9 @@ use Rattle.clap.specs.declared.error.kind.ErrorKind.{ErrorKind}
 use Rattle.clap.specs.declared.error.kind.ErrorKind.TheVariants.{OutOfMemory}
 use Rattle.clap.specs.declared.parser.matches.ArgMatches.{ArgMatches}
 use Rattle.clap.proofs.OnLiterals.{clap_on_literals}
-use Rattle.clap.proofs.WalkLemmas.{byte_read}
-use Rattle.dt_words.specs.Table.{app_of_task, values_of}
+use Rattle.dt_words.specs.Table.{app_of_task, number_in, values_of, within}
 use Rattle.dt_words.specs.declared.commands.Task.{Task}
-use Rattle.dt_words.specs.declared.commands.Task.TheVariants.{Pass, Dump, Convert}
+use Rattle.dt_words.specs.declared.commands.Task.TheVariants.{Pass, Check, Dump, Convert}
 
 -- a command with one more argument
 pub one_more : (old new : Command) (a : Arg) (app : App) (rule : Rule) → AddsArg old a new → a.global ≡ false → app_of old ≡ app → rule_of a ≡ rule
@@ -31,12 +32,14 @@ one_more old new a app rule adds local before is = adds.shape local ∙ ap₂ wi
 is_simple_task : (task : Task) → is_simple (app_of_task task) ≡ true
 unfolding app_of_task clap_on_literals
 is_simple_task Pass = refl
+is_simple_task Check = refl
 is_simple_task Dump = refl
 is_simple_task Convert = refl
 
 is_free_task : (task : Task) → is_simple_and_free (app_of_task task) ≡ true
 unfolding app_of_task clap_on_literals
 is_free_task Pass = refl
+is_free_task Check = refl
 is_free_task Dump = refl
 is_free_task Convert = refl
 
@@ -65,13 +68,16 @@ refused task app words e is fails other =
 
 -- ---- a number
 
--- the number that a typed getter reads of a text, or 0
-pub number_read : {E : Type 0} (gives : List ℕ → Result ℕ E → Type 0) (text : Option Text) (r : Option ℕ)
-    → ((t : Text) (x : Result ℕ E) → gives t x → ParsesUnsigned 8 10 t x)
-    → (text ≡ None → r ≡ None) → ((t : Text) → text ≡ Some t → ReadsOne gives t r) → unwrap_or r 0 ≡ option_map_or byte_or_zero text 0
-number_read gives None r parses none value = rw (none refl) refl
-number_read {E} gives (Some t) r parses none value = go r (value t refl)
+in_range : (least most otherwise number : ℕ) (t : Bool) → (nat_le least number && nat_le number most) ≡ t → least ≤ otherwise → otherwise ≤ most
+    → (least ≤ within least most otherwise number) × (within least most otherwise number ≤ most)
+in_range least most otherwise number true is low high =
+    let halves = both (nat_le least number) (nat_le number most) is in
+    rw is (leb-true least number halves.0, leb-true number most halves.1)
+in_range least most otherwise number false is low high = rw is (low, high)
+
+pub workers_in_range : (values : List Row) → (1 ≤ number_in (codes "workers") 1 8 2 values) × (number_in (codes "workers") 1 8 2 values ≤ 8)
+workers_in_range values = go (first_of (codes "workers") values)
   where
-    go : (o : Option ℕ) → ReadsOne gives t o → unwrap_or o 0 ≡ byte_or_zero t
-    go (Some v) h = byte_read {E = E} t (Ok v) (parses t (Ok v) h)
-    go None h = byte_read {E = E} t (Err h.0) (parses t (Err h.0) h.1)
+    go : (o : Option Text) → (1 ≤ option_map_or (λ text. within 1 8 2 (byte_or_zero text)) o 2) × (option_map_or (λ text. within 1 8 2 (byte_or_zero text)) o 2 ≤ 8)
+    go None = (omega arith, omega arith)
+    go (Some text) = in_range 1 8 2 (byte_or_zero text) (nat_le 1 (byte_or_zero text) && nat_le (byte_or_zero text) 8) refl (omega arith) (omega arith)

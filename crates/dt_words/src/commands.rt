@@ -8,6 +8,8 @@ pub enum Task {
     /// Check a probe file against the reference, on one thread: `pass [--sources]
     /// IMAGE PROBES`.
     Pass,
+    /// Check it with several workers: `check [--workers N] [--sources] IMAGE PROBES`.
+    Check,
     /// Print the records of a probe file: `dump PROBES`.
     Dump,
     /// Write a probe file in another version: `convert --to N PROBES`.
@@ -20,7 +22,9 @@ pub struct Command {
     pub task: Task,
     /// The version of the file that `convert` writes, 1 or 2; 0 for the other tasks.
     pub to: u8,
-    /// Whether `pass` prints where loads have their bytes from; false for the other tasks.
+    /// How many workers `check` has, from 1 to 8; 2 for the other tasks.
+    pub workers: u8,
+    /// Whether a check prints where loads have their bytes from; false for the other tasks.
     pub sources: bool,
     /// The path of the memory image, where the task reads one.
     pub image: Option<String>,

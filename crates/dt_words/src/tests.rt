@@ -18,6 +18,7 @@ fn parsed(alloc: Global, line: &str) -> Result<Command, WordsRefusal> {
 fn says(command: &Command, task: Task, to: u8, image: Option<&str>, probes: Option<&str>) -> bool {
     command.task == task
         && command.to == to
+        && command.workers == 2
         && !command.sources
         && command.image.as_ref().map(|path| path.as_str()) == image
         && command.probes.as_ref().map(|path| path.as_str()) == probes
@@ -30,6 +31,14 @@ fn reads_each_command(rt: HostRuntime) -> Result<(), Fail> {
         ("pass -- -a b", Task::Pass, 0, Some("-a"), "b"),
         ("pass a -- -b", Task::Pass, 0, Some("a"), "-b"),
         ("pass - -", Task::Pass, 0, Some("-"), "-"),
+        ("check a b", Task::Check, 0, Some("a"), "b"),
+        (
+            "check -- --workers 4",
+            Task::Check,
+            0,
+            Some("--workers"),
+            "4",
+        ),
         ("dump b", Task::Dump, 0, None, "b"),
         ("dump -- --to", Task::Dump, 0, None, "--to"),
         ("dump -- --", Task::Dump, 0, None, "--"),
@@ -53,11 +62,29 @@ fn reads_a_wish_for_sources(rt: HostRuntime) -> Result<(), Fail> {
         ("pass --sources a b", true),
         ("pass a b --sources", true),
         ("pass a -- --sources", false),
+        ("check --sources a b", true),
     ] {
         let Ok(command) = parsed(rt.alloc(), line) else {
             panic!(rt; "{line}");
         };
         assert_eq!(rt; command.sources, sources, "{line}");
+    }
+    Ok(())
+}
+
+#[test]
+fn reads_a_number_of_workers(rt: HostRuntime) -> Result<(), Fail> {
+    for (line, workers) in [
+        ("check a b", 2),
+        ("check --workers 1 a b", 1),
+        ("check a --workers=8 --sources b", 8),
+        ("check a b --workers +0004", 4),
+        ("pass a b", 2),
+    ] {
+        let Ok(command) = parsed(rt.alloc(), line) else {
+            panic!(rt; "{line}");
+        };
+        assert_eq!(rt; command.workers, workers, "{line}");
     }
     Ok(())
 }
@@ -98,7 +125,16 @@ fn other_words_are_usage(rt: HostRuntime) {
         "convert -to 1 b",
         "convert --t 1 b",
         "convert --to 1 a b",
-        "check a b",
+        "convert --to=-0 b",
+        "check a",
+        "check --workers a b",
+        "check --workers 0 a b",
+        "check --workers 9 a b",
+        "check --workers=-0 a b",
+        "check --workers 1 --workers 1 a b",
+        "check --to 1 a b",
+        "pass --workers 1 a b",
+        "dump --workers 1 b",
         "replay a b",
         "live a",
         "gen-image random 1",

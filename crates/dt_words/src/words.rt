@@ -1,7 +1,8 @@
-ghost use Rattle.std.specs.Prelude.{◌≡◌, false, IfErr, IfOk, Some, None, Err, codes, map, option_map};
+ghost use Rattle.std.specs.Prelude.{◌≡◌, ◌≤◌, false, IfErr, IfOk, Some, None, Err, map, option_map};
 ghost use Rattle.std.specs.String.{string_bytes};
+ghost use Rattle.clap.specs.Walk.{byte_or_zero};
 ghost use Rattle.clap.specs.Words.{app_of, found_of, kind_of, rows_of, rule_of};
-ghost use Rattle.dt_words.specs.Table.{app_of_task, asked_by, asked_for, asked_of, image_of, path_rule, sources_of, sources_rule, task_named, to_of, values_of, version_rule};
+ghost use Rattle.dt_words.specs.Table.{app_of_task, asked_by, asked_for, asked_in, flag_in, number_in, path_rule, sources_rule, task_named, values_of, version_rule, within, workers_rule};
 
 use crate::commands::{Command, Task, WordsRefusal};
 use clap::error::ErrorKind;
@@ -14,6 +15,7 @@ fn task_named(word: &str) -> Option<Task>
 {
     match word {
         "pass" => Some(Task::Pass),
+        "check" => Some(Task::Check),
         "dump" => Some(Task::Dump),
         "convert" => Some(Task::Convert),
         _ => None,
@@ -35,8 +37,18 @@ fn version<'a>(alloc: Global) -> Arg<'a>
 {
     Arg::new(alloc, "to")
         .long("to")
-        .value_parser(value_parser!(u8).range(1..=2))
+        .value_parser(value_parser!(u64).range(1..=2))
         .required(true)
+}
+
+/// `--workers N`, which may be there.
+fn workers<'a>(alloc: Global) -> Arg<'a>
+    ensures rule { rule_of result ≡ workers_rule }
+    ensures local { result.global ≡ false }
+{
+    Arg::new(alloc, "workers")
+        .long("workers")
+        .value_parser(value_parser!(u64).range(1..=8))
 }
 
 /// `--sources`, which may be there.
@@ -55,6 +67,11 @@ fn command_for<'a>(alloc: Global, task: Task) -> Result<clap::Command<'a>, Alloc
 {
     match task {
         Task::Pass => clap::Command::new(alloc, "pass")
+            .arg(sources(alloc))?
+            .arg(path(alloc, "image"))?
+            .arg(path(alloc, "probes")),
+        Task::Check => clap::Command::new(alloc, "check")
+            .arg(workers(alloc))?
             .arg(sources(alloc))?
             .arg(path(alloc, "image"))?
             .arg(path(alloc, "probes")),
@@ -104,57 +121,66 @@ fn owned(alloc: Global, text: Option<&str>) -> Result<Option<String>, AllocError
     }
 }
 
-/// The version to write that the values of a task give.
-fn version_to(task: Task, matches: &ArgMatches<'_>) -> u8
-    ensures { result ≡ to_of task (rows_of (found_of matches.now)) }
+/// The number of a text, and 0 where it is none.
+fn byte_of(text: &str) -> u8
+    ensures { result ≡ byte_or_zero text.now }
 {
-    match task {
-        Task::Pass | Task::Dump => 0,
-        Task::Convert => matches.get_one::<u8>("to").unwrap_or(0),
+    text.parse::<u8>().unwrap_or(0)
+}
+
+/// A number that is within its range, and another in its place.
+fn within(least: u8, most: u8, otherwise: u8, number: u8) -> u8
+    ensures { result ≡ within least most otherwise number }
+{
+    if least <= number && number <= most {
+        number
+    } else {
+        otherwise
     }
 }
 
-/// Whether the values of a task ask for the sources of loads.
-fn wants_sources(task: Task, matches: &ArgMatches<'_>) -> bool
-    ensures { result ≡ sources_of task (rows_of (found_of matches.now)) }
+/// The number that an option gives, and another where it is not there.
+fn number_in(matches: &ArgMatches<'_>, name: &str, least: u8, most: u8, otherwise: u8) -> u8
+    ensures { result ≡ number_in name.now least most otherwise (rows_of (found_of matches.now)) }
 {
-    match task {
-        Task::Pass => match matches.get_str("sources") {
-            Some(text) => text == "true",
-            None => false,
-        },
-        Task::Dump | Task::Convert => false,
+    match matches.get_str(name) {
+        Some(text) => within(least, most, otherwise, byte_of(text)),
+        None => otherwise,
     }
 }
 
-/// The path of an image that the values of a task give.
-fn image_path<'a>(task: Task, matches: &ArgMatches<'a>) -> Option<&'a str>
-    ensures { option_map (λ path. path.now) result ≡ image_of task (rows_of (found_of matches.now)) }
+/// Whether a flag is there.
+fn flag_in(matches: &ArgMatches<'_>, name: &str) -> bool
+    ensures { result ≡ flag_in name.now (rows_of (found_of matches.now)) }
 {
-    match task {
-        Task::Pass => matches.get_str("image"),
-        Task::Dump | Task::Convert => None,
+    match matches.get_str(name) {
+        Some(text) => text == "true",
+        None => false,
     }
 }
 
 /// What the values of a task say.
 fn command_of(alloc: Global, task: Task, matches: &ArgMatches<'_>) -> Result<Command, AllocError>
-    ensures { IfOk result (λ command. asked_by command ≡ asked_for task (rows_of (found_of matches.now))) }
+    ensures says { IfOk result (λ command. asked_by command ≡ asked_for task (rows_of (found_of matches.now))) }
+    ensures workers { IfOk result (λ command. (1 ≤ command.workers) × (command.workers ≤ 8)) }
 {
     Ok(Command {
         task,
-        to: version_to(task, matches),
-        sources: wants_sources(task, matches),
-        image: owned(alloc, image_path(task, matches))?,
+        to: number_in(matches, "to", 1, 2, 0),
+        workers: number_in(matches, "workers", 1, 8, 2),
+        sources: flag_in(matches, "sources"),
+        image: owned(alloc, matches.get_str("image"))?,
         probes: owned(alloc, matches.get_str("probes"))?,
     })
 }
 
-/// Reads the words that follow the program's name: `pass [--sources] IMAGE PROBES`, `dump PROBES` or
-/// `convert --to N PROBES`. A request for help is no command.
+/// Reads the words that follow the program's name: `pass [--sources] IMAGE PROBES`,
+/// `check [--workers N] [--sources] IMAGE PROBES`, `dump PROBES` or `convert --to N PROBES`. A request
+/// for help is no command.
 pub fn parse_words(alloc: Global, words: &[String]) -> Result<Command, WordsRefusal>
-    ensures says { IfOk result (λ command. asked_of (map string_bytes words.now) ≡ Some (asked_by command)) }
-    ensures usage { result ≡ Err WordsRefusal.Usage → asked_of (map string_bytes words.now) ≡ None }
+    ensures says { IfOk result (λ command. asked_in words.now ≡ Some (asked_by command)) }
+    ensures usage { result ≡ Err WordsRefusal.Usage → asked_in words.now ≡ None }
+    ensures workers { IfOk result (λ command. (1 ≤ command.workers) × (command.workers ≤ 8)) }
 {
     let Some(first) = words.first() else {
         return Err(WordsRefusal::Usage);

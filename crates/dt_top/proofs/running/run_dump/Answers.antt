@@ -1,11 +1,12 @@
-use Rattle.std.proofs.Common.{rules}
+use Rattle.std.proofs.Common.{Some, rules}
 use Rattle.dt_top.proofs.Filing.{dump_ran}
+use Rattle.dt_top.proofs.Replying.{of_memory, ran_of_reply}
 use Rattle.dt_top.proofs.running.run_dump.Goals as goal
 
 pub returns-clause-ran : goal.returns-clause-ran
-returns-clause-ran g c = λ asked image image_old image_new is.
+returns-clause-ran g c = λ asked image is.
     let d = c.dump_probes-status.ensures in
-    dump_ran asked image _ image_old image_new _ _ _ _ _ _ _ _ _ _ _ is c.within-stream.ensures.told c.within-stream.ensures.faults
+    dump_ran asked image _ _ _ _ _ _ _ is c.within-stream.ensures.told c.within-stream.ensures.faults
     (record {
       whole = d.whole;
       ended = d.ended;
@@ -16,3 +17,6 @@ returns-clause-ran g c = λ asked image image_old image_new is.
       write_fault_front = d.write_fault_front;
     })
     (search rules)
+
+pub returns-in_default-clause-ran : goal.returns-in_default-clause-ran
+returns-in_default-clause-ran g c = λ asked image is. ran_of_reply _ _ _ _ _ c.put_reply.result (of_memory (Some asked) image _) c.put_reply.ensures.put
