@@ -54,7 +54,7 @@ fn add_writes(notes: &mut Vec<Note>, writes: &[Write]) -> Result<(), AllocError>
 
 /// How far the hart has come: to its end, once no more records come and none is queued. Before that
 /// it has come to the cycle of the record that it took last, where it took one.
-fn reach_by(is_ended: bool, hart: u8, queue: &[Record], taken: &[Record]) -> Option<Note>
+fn reach_of(is_ended: bool, hart: u8, queue: &[Record], taken: &[Record]) -> Option<Note>
     ensures { option_to_list result ≡ reach_by is_ended hart queue.now taken.now }
 {
     if is_ended && queue.is_empty() {
@@ -68,7 +68,7 @@ fn reach_by(is_ended: bool, hart: u8, queue: &[Record], taken: &[Record]) -> Opt
 }
 
 /// What is to be told of one hart after these notes.
-fn news_by<J: Judgement>(
+fn news_of<J: Judgement>(
     alloc: Global,
     is_ended: bool,
     hart: u8,
@@ -83,7 +83,7 @@ fn news_by<J: Judgement>(
     let writes = writes_by(alloc, hart, state.taken())?;
     let mut news = Vec::new(alloc);
     add_writes(&mut news, &writes[told.min(writes.len())..])?;
-    if let Some(note) = reach_by(is_ended, hart, state.queue(), state.taken()) {
+    if let Some(note) = reach_of(is_ended, hart, state.queue(), state.taken()) {
         news.push(note)?;
     }
     Ok(news)
@@ -114,7 +114,7 @@ fn tell_hart<J: Judgement>(
 {
     if is_mine(by.workers, by.worker, hart) {
         let notes = notes_in(alloc, history)?;
-        let news = news_by(alloc, by.is_ended, hart, state, &notes)?;
+        let news = news_of(alloc, by.is_ended, hart, state, &notes)?;
         add_entries(history, by.worker, &news)?;
     }
     Ok(())
