@@ -5,7 +5,7 @@ ghost use Rattle.dt_intake.specs.Fronts.{stamp_after, may_be_next, usable_front}
 use dt_record::{RECORD_LIMIT, Record, lawful};
 
 /// The stamp of the last record, and 0 where there is none.
-fn stamp_after(records: &[Record]) -> u64
+fn last_stamp(records: &[Record]) -> u64
     ensures { result ≡ stamp_after 0 records.now }
 {
     match records.last() {
@@ -25,7 +25,7 @@ fn may_be_next(hart: u8, seq: usize, stamp: u64, event: &Record) -> bool
 fn goes_on(hart: u8, taken: &[Record], usable_len: usize, event: &Record) -> bool
     ensures { result ≡ ((usable_len == length taken.now) && may_be_next hart usable_len (stamp_after 0 taken.now) event.now) }
 {
-    usable_len == taken.len() && may_be_next(hart, usable_len, stamp_after(taken), event)
+    usable_len == taken.len() && may_be_next(hart, usable_len, last_stamp(taken), event)
 }
 
 /// How many records are usable once this one is taken.
