@@ -1,0 +1,5 @@
+pub mod Ends
+pub mod Laws
+pub mod Steps
+pub mod Telling
+pub mod Workers
