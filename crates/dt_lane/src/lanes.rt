@@ -1,17 +1,28 @@
-ghost use Rattle.std.specs.Prelude.{◌≡◌, ◌++◌, ℕ, List, [], OnOk, OnErr};
+ghost use Rattle.std.specs.Prelude.{◌≡◌, ◌++◌, ℕ, Bool, List, [], All, IsTrue, drop, OnOk, OnErr};
+ghost use mathlib.Core.List.{IsPrefix};
+ghost use Rattle.dt_core.specs.Marks.{is_below};
+ghost use Rattle.dt_record.specs.declared.writes.Note.{Note};
 ghost use Rattle.dt_record.specs.declared.writes.Write.{Write};
 ghost use Rattle.dt_queue.specs.Queue.{taken, take_queue};
 ghost use Rattle.dt_intake.specs.Intakes.{new_intake, news_of, has_news, after_telling};
+ghost use Rattle.dt_intake.specs.Told.{IsTold};
 ghost use Rattle.dt_runs.specs.RunView.{outcome_in};
-ghost use Rattle.dt_lane.specs.Lanes.{IsJudgedBy, IsLane, is_done, is_judged, judged_of};
+ghost use Rattle.dt_settled.specs.Settling.{Continues};
+ghost use Rattle.dt_lane.specs.Lanes.{IsJudgedBy, IsLane, is_done, is_judged, judged_len, judged_of};
 
 use crate::ends::HartEnd;
-use dt_intake::Intake;
-use dt_queue::Take;
-use dt_record::Note;
+use dt_intake::{Intake, room_keeps_told, taking_keeps_told, usable_front_grows};
+use dt_queue::{Pop, Take};
+use dt_record::{Note, RECORD_LIMIT};
 use dt_runs::HartRun;
+use dt_settled::early_writes_have_settled;
+use dt_source::{Gate, GateEvent};
+use dt_versions::Moments;
 use std::alloc::{AllocError, Global};
 use std::marker::Model;
+
+/// How many records are taken of a hart before the next one has its turn.
+const TURN: usize = 256;
 
 /// One hart in the hands of its worker.
 #[derive(Drop)]
@@ -58,6 +69,62 @@ impl Lane {
         self.intake.hart()
     }
 
+    /// Takes what the queue holds of the hart, up to 256 records, and nothing behind the end of its feed.
+    /// It answers whether something came. An `Err` leaves what was taken before.
+    pub fn take_in<G: Gate>(&mut self, worker: u8, gate: &G) -> Result<bool, AllocError>
+        ensures queue { self.new.queue ≡ self.old.queue }
+        ensures hart { self.new.intake.hart ≡ self.old.intake.hart }
+        ensures run { self.new.run ≡ self.old.run }
+        ensures judged { judged_of self.new ≡ judged_of self.old }
+        ensures told { (notes : List Note) → IsTold self.old.intake notes → IsTold self.new.intake notes }
+    {
+        let mut came = false;
+        for _ in 0..TURN {
+            if !self.take_next(worker, gate)? {
+                return Ok(came);
+            }
+            came = true;
+        }
+        Ok(came)
+    }
+
+    /// Takes the next record of the queue, or the end of its feed, where one has come.
+    fn take_next<G: Gate>(&mut self, worker: u8, gate: &G) -> Result<bool, AllocError>
+        ensures queue { self.new.queue ≡ self.old.queue }
+        ensures hart { self.new.intake.hart ≡ self.old.intake.hart }
+        ensures run { self.new.run ≡ self.old.run }
+        ensures judged { judged_of self.new ≡ judged_of self.old }
+        ensures told { (notes : List Note) → IsTold self.old.intake notes → IsTold self.new.intake notes }
+    {
+        room_keeps_told();
+        taking_keeps_told();
+        usable_front_grows();
+        if self.intake.has_ended() {
+            return Ok(false);
+        }
+        self.intake.reserve()?;
+        match self.queue.pop() {
+            Pop::Empty => Ok(false),
+            Pop::Item(event) => {
+                self.intake.take(event);
+                self.tell_took(worker, gate);
+                Ok(true)
+            }
+        }
+    }
+
+    /// Tells the gate of a record that was taken. The end of a feed is none.
+    fn tell_took<G: Gate>(&mut self, worker: u8, gate: &G)
+        ensures { self.new ≡ self.old }
+    {
+        if !self.intake.has_ended() {
+            let hart = self.intake.hart();
+            let n = self.count;
+            self.count = n.wrapping_add(1);
+            gate.at(GateEvent::Took { worker, hart, n });
+        }
+    }
+
     /// Whether there is a usable record that was not told, or an End that was not.
     pub fn has_news(&self) -> bool
         ensures { result ≡ has_news self.now.intake }
@@ -78,6 +145,62 @@ impl Lane {
         ensures { self.new ≡ record self.old { intake = after_telling self.old.intake } }
     {
         self.intake.note_told();
+    }
+
+    /// Judges the hart's records, as long as the next usable one is below the least mark and none has
+    /// failed. It answers whether one was judged. An `Err` leaves what was judged before.
+    pub fn judge_ready<G: Gate>(
+        &mut self,
+        m: &Moments,
+        least: Option<u64>,
+        worker: u8,
+        gate: &G,
+    ) -> Result<bool, AllocError>
+        ensures same { self.new ≡ record self.old { run = self.new.run } }
+        ensures judged { (wide : Bool) (all : List Write) → Continues m.now.writes least all
+            → IsJudgedBy self.old m.now.image wide all → IsJudgedBy self.new m.now.image wide all }
+        ensures further { IsPrefix (judged_of self.old) (judged_of self.new) }
+        ensures below { All (λ r. IsTrue (is_below least r.stamp)) (drop (judged_len self.old.run) (judged_of self.new)) }
+    {
+        let mut moved = false;
+        for _ in 0..RECORD_LIMIT {
+            if !self.judge_next(m, least, worker, gate)? {
+                return Ok(moved);
+            }
+            moved = true;
+        }
+        Ok(moved)
+    }
+
+    /// Judges the hart's next usable record, where it is below the least mark and none has failed.
+    fn judge_next<G: Gate>(
+        &mut self,
+        m: &Moments,
+        least: Option<u64>,
+        worker: u8,
+        gate: &G,
+    ) -> Result<bool, AllocError>
+        ensures same { self.new ≡ record self.old { run = self.new.run } }
+        ensures judged { (wide : Bool) (all : List Write) → Continues m.now.writes least all
+            → IsJudgedBy self.old m.now.image wide all → IsJudgedBy self.new m.now.image wide all }
+        ensures further { IsPrefix (judged_of self.old) (judged_of self.new) }
+        ensures below { All (λ r. IsTrue (is_below least r.stamp)) (drop (judged_len self.old.run) (judged_of self.new)) }
+    {
+        early_writes_have_settled();
+        if self.run.has_failed() {
+            return Ok(false);
+        }
+        let seq = self.run.seq();
+        match self.intake.usable().get(seq as usize) {
+            Some(event) if is_below(least, event.stamp) => {
+                self.run.judge(m, event)?;
+                let hart = self.intake.hart();
+                let n = u64::from(seq);
+                gate.at(GateEvent::Judged { worker, hart, n });
+                Ok(true)
+            }
+            _ => Ok(false),
+        }
     }
 
     /// Whether all usable records are judged, or one is not allowed.
@@ -122,5 +245,15 @@ impl Lane {
             notes: run.into_notes(),
         };
         (queue, end)
+    }
+}
+
+/// Whether a cycle is below the least mark. Each is where there is none.
+fn is_below(least: Option<u64>, stamp: u64) -> bool
+    ensures { result ≡ is_below least stamp }
+{
+    match least {
+        Some(mark) => stamp < mark,
+        None => true,
     }
 }
