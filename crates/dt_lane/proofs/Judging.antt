@@ -10,7 +10,7 @@ use Rattle.dt_record.specs.declared.records.Record.{Record}
 use Rattle.dt_record.specs.declared.writes.Write.{Write}
 use Rattle.dt_verdict.specs.declared.verdicts.Failure.{Failure}
 use Rattle.dt_versions.specs.History.{History}
-use Rattle.dt_intake.specs.Fronts.{AreUsable, MayBeNext, last_stamp}
+use Rattle.dt_intake.specs.Fronts.{AreUsable, MayBeNext, stamp_after}
 use Rattle.dt_intake.specs.Intakes.{usable_of}
 use Rattle.dt_runs.specs.RunView.{RunView}
 use Rattle.dt_runs.specs.Runs.{AreOwn, HoldsUntil, Runs, RunsOn}
@@ -21,7 +21,7 @@ use Rattle.dt_lane.specs.Lanes.{IsJudgedBy, IsLane, LaneView, judged_len, judged
 take_push : (rs : List Record) (n : ℕ) (r : Record) → n < length rs → r ≡ get_or rs n r → take (n + 1) rs ≡ take n rs ++ r ∷ []
 take_push rs n r within is = take_more rs n r within ∙ ap (λ (q : Record). take n rs ++ q ∷ []) (sym is)
 
-last_stamp-push : (stamp : ℕ) (rs : List Record) (r : Record) → last_stamp stamp (rs ++ r ∷ []) ≡ r.stamp
+last_stamp-push : (stamp : ℕ) (rs : List Record) (r : Record) → stamp_after stamp (rs ++ r ∷ []) ≡ r.stamp
 last_stamp-push stamp [] r = refl
 last_stamp-push stamp (q ∷ qs) r = last_stamp-push q.stamp qs r
 
@@ -95,26 +95,26 @@ judged_more l new r is was =
     ap (λ (n : ℕ). take n us) (one_more l.run new r new.failure refl was) ∙ take_push us l.run.hart.seq r is.within is.there
     ∙ ap (λ (n : ℕ). take n us ++ r ∷ []) (sym (unjudged l.run is.none))
 
-stamp_after : (l : LaneView) (new : RunView) (r : Record) (failure : Option Failure) → new.failure ≡ failure → IsNext l r → WasJudged l.run new r
-    → new.hart.stamp ≡ last_stamp 0 (take new.hart.seq (usable_of l.intake))
-stamp_after l new r None failed is was =
+stamp_follows : (l : LaneView) (new : RunView) (r : Record) (failure : Option Failure) → new.failure ≡ failure → IsNext l r → WasJudged l.run new r
+    → new.hart.stamp ≡ stamp_after 0 (take new.hart.seq (usable_of l.intake))
+stamp_follows l new r None failed is was =
     let us = usable_of l.intake in
     let n = l.run.hart.seq in
     let counted : new.hart.seq ≡ n + 1 = subst (λ (o : Option Failure). IfNone o (new.hart.seq ≡ n + 1)) failed was.counted in
     subst (λ (o : Option Failure). IfNone o (new.hart.stamp ≡ r.stamp)) failed was.stamp
-    ∙ sym (ap (λ (k : ℕ). last_stamp 0 (take k us)) counted ∙ ap (last_stamp 0) (take_push us n r is.within is.there) ∙ last_stamp-push 0 (take n us) r)
-stamp_after l new r (Some f) failed is was =
+    ∙ sym (ap (λ (k : ℕ). stamp_after 0 (take k us)) counted ∙ ap (stamp_after 0) (take_push us n r is.within is.there) ∙ last_stamp-push 0 (take n us) r)
+stamp_follows l new r (Some f) failed is was =
     let stays : new.hart ≡ l.run.hart = subst (λ (o : Option Failure). IfSome o (λ (g : Failure). new.hart ≡ l.run.hart)) failed was.stays in
     let seq : new.hart.seq ≡ l.run.hart.seq = cc in
     let stamp : new.hart.stamp ≡ l.run.hart.stamp = cc in
-    stamp ∙ is.lane.stamp ∙ ap (λ (n : ℕ). last_stamp 0 (take n (usable_of l.intake))) (sym seq)
+    stamp ∙ is.lane.stamp ∙ ap (λ (n : ℕ). stamp_after 0 (take n (usable_of l.intake))) (sym seq)
 
 pub judging_keeps : (l : LaneView) (new : RunView) (r : Record) → IsNext l r → WasJudged l.run new r → IsLane (with_run l new)
 judging_keeps l new r is was = record {
   number = was.number ∙ is.lane.number;
   popped = is.lane.popped;
   within = omega (arith, one_more l.run new r new.failure refl was, is.within);
-  stamp = stamp_after l new r new.failure refl is was;
+  stamp = stamp_follows l new r new.failure refl is was;
 }
 
 pub judged_below : (l : LaneView) (new : RunView) (r : Record) (least : Option ℕ) → IsNext l r → WasJudged l.run new r → IsTrue (is_below least r.stamp)

@@ -6,7 +6,7 @@ use Rattle.std.proofs.lemmas.List.Elements.{All-append, All-cons, All-nil}
 use mathlib.Core.List.{IsPrefix}
 use Rattle.dt_record.specs.declared.records.Record.{Record}
 use Rattle.dt_queue.specs.Queue.{QueueName}
-use Rattle.dt_intake.specs.Fronts.{last_stamp, usable_front}
+use Rattle.dt_intake.specs.Fronts.{stamp_after, usable_front}
 use Rattle.dt_intake.specs.Intakes.{IntakeView, is_feed_end, usable_of, with_record}
 use Rattle.dt_intake.specs.Laws.{UsableFrontGrows}
 use Rattle.dt_runs.specs.RunView.{RunView}
@@ -60,7 +60,7 @@ popped_into grows l new roomy r is goes_on had popped taken same =
       number = is.number ∙ sym hart;
       popped = popped_more v l.popped r goes_on is.popped;
       within = omega (arith, is.within);
-      stamp = is.stamp ∙ ap (last_stamp 0) (sym (front_kept l.run.hart.seq (usable_of l.intake) (usable_of next) on (omega (arith, is.within))));
+      stamp = is.stamp ∙ ap (stamp_after 0) (sym (front_kept l.run.hart.seq (usable_of l.intake) (usable_of next) on (omega (arith, is.within))));
     } in (
       subst IsLane (sym whole) kept,
       ap judged_of whole ∙ front_kept (judged_len l.run) (usable_of l.intake) (usable_of next) on is.within,

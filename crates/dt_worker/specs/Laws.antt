@@ -26,5 +26,6 @@ pub record IsOutcomeOver (image : List ℕ) (wide : Bool) (all : List Write) (en
 
 -- where the history that a worker's pass has seen is orderly, each outcome is the judgement over the writes which it announces
 abbrev pub OutcomesOverItsOwnHistory : Type 0
-OutcomesOverItsOwnHistory = (w : WorkerView) (e : WorkerEnd) (k : ℕ) (h : HartEnd) → IsWorkerEnd w e → AreOrderly w.harts (notes_in e.pass.seen)
+OutcomesOverItsOwnHistory = (w : WorkerView) (e : WorkerEnd) (k : ℕ) (h : HartEnd) → IsWorkerEnd w e
+    → AreOrderly w.harts (notes_in e.pass.seen)
     → k < length w.lanes → IsOutcomeOver w.image w.wide (by_key (announced (notes_in e.pass.seen))) (slice_index_or e.harts.items k h)

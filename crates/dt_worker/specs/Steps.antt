@@ -42,7 +42,8 @@ pub record LooksFurther (harts : ℕ) (p q : PassState) (r s : ReplicaState) (u 
 
 -- below the least mark of what the worker has seen, no write is wanting to what has settled
 abbrev pub HasSettled : WorkerView → Type 0
-HasSettled w = (all : List Write) → AreAllWrites w.image w.harts w.notes all → Continues w.settled.writes (least_mark w.harts w.notes) all
+HasSettled w = (all : List Write) → AreAllWrites w.image w.harts w.notes all
+    → Continues w.settled.writes (least_mark w.harts w.notes) all
 
 -- the lane of the same hart and queue
 pub record SameLane (u v : LaneView) : Type 0 where
@@ -59,7 +60,7 @@ pub record Goes (u v : WorkerView) : Type 0 where
 
 -- What a worker keeps beside: its replica is of all harts, it knows whether memory was refused to it, and there is room for the ends of
 -- its lanes.
-pub record IsKept (w : WorkerView) (replica : ReplicaState) (knows : Bool) (takes_room ends_room : ℕ) : Type 0 where
+pub record IsWorkerState (w : WorkerView) (replica : ReplicaState) (knows : Bool) (takes_room ends_room : ℕ) : Type 0 where
   pub steady : IsSteady w
   pub harts : replica.harts ≡ w.harts
   pub refused : knows ≡ w.pass.stopped

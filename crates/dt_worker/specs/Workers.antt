@@ -74,7 +74,8 @@ pub record IsLaterPass (old new : PassState) : Type 0 where
   pub seen : IsPrefix old.seen new.seen
 
 -- What came of one hart: the lane at the end says what was taken, told and judged.
-pub record IsHartEnd (w : WorkerView) (pass : PassState) (finished : Bool) (given : LaneView) (take : ℕ × Take) (end : HartEnd) : Type 0 where
+pub record IsHartEnd (w : WorkerView) (pass : PassState) (finished : Bool) (given : LaneView) (take : ℕ × Take)
+    (end : HartEnd) : Type 0 where
   pub lane : LaneView
   pub is_lane : IsLane lane
   -- the take that was given, of the same hart, and all that was popped from it
@@ -100,7 +101,8 @@ pub record IsWorkerEnd (w : WorkerView) (e : WorkerEnd) : Type 0 where
   pub takes_len : length e.takes.items ≡ length w.lanes
   pub harts_len : length e.harts.items ≡ length w.lanes
   pub harts : (k : ℕ) (l : LaneView) (t : ℕ × Take) (h : HartEnd) → k < length w.lanes
-      → IsHartEnd w e.pass (not (e.refused || e.stopped)) (slice_index_or w.lanes k l) (slice_index_or e.takes.items k t) (slice_index_or e.harts.items k h)
+      → IsHartEnd w e.pass (not (e.refused || e.stopped)) (slice_index_or w.lanes k l)
+      (slice_index_or e.takes.items k t) (slice_index_or e.harts.items k h)
   -- it appended nothing of other harts
   pub no_other : (hart : ℕ) → AreOthers hart w.lanes → own_notes hart e.pass.own ≡ []
   -- memory was refused to it exactly where its pass has stopped

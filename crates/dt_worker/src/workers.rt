@@ -56,7 +56,7 @@ pub struct Worker {
 
 impl Model for Worker {
     ghost use Rattle.std.specs.Prelude.{vec_capacity};
-    ghost use Rattle.dt_worker.specs.Steps.{IsKept};
+    ghost use Rattle.dt_worker.specs.Steps.{IsWorkerState};
     ghost use Rattle.dt_worker.specs.Workers.{WorkerView};
 
     ghost Value = { WorkerView };
@@ -71,7 +71,7 @@ impl Model for Worker {
       settled = w.settled;
     } };
 
-    ghost invariant = { λ w. IsKept (record {
+    ghost invariant = { λ w. IsWorkerState (record {
       harts = w.harts;
       wide = w.wide;
       image = w.settled.image;
