@@ -1,9 +1,9 @@
 -- A lane after its next usable record was judged.
-use Rattle.std.proofs.Common.{ℕ, ◌≡◌, ◌≤◌, ◌<◌, ◌+◌, ◌-◌, Bool, true, false, Option, Some, None, is_some, List, [], ◌∷◌, ◌++◌, length, get_or, take, drop, All, if◌then◌else◌, refl, sym, ap, ◌∙◌, subst, inl, inr, arith, zero, suc}
+use Rattle.std.proofs.Common.{ℕ, ◌≡◌, ◌≤◌, ◌<◌, ◌+◌, ◌-◌, Bool, Option, Some, None, is_some, List, [], ◌∷◌, ◌++◌, length, get_or, take, drop, All, if◌then◌else◌, refl, sym, ap, ◌∙◌, subst, inl, inr, arith}
 use Rattle.std.specs.Prelude.{IfNone, IfSome, IsTrue}
 use Rattle.std.proofs.lemmas.Bool.{cases_lt}
 use Rattle.std.proofs.lemmas.List.Elements.{All-cons, All-nil}
-use Rattle.std.proofs.lemmas.List.{append_assoc, drop_at, get_or-drop, get_or_append_left, length-drop, length-append, length-take, take-append-drop, take_more}
+use Rattle.std.proofs.lemmas.List.{append_assoc, drop_at, get_or-drop, get_or_append_left, length-drop, length-take, take-append-drop, take_more}
 use mathlib.Core.List.{IsPrefix}
 use Rattle.dt_core.specs.Marks.{is_below}
 use Rattle.dt_record.specs.declared.records.Record.{Record}

@@ -1,12 +1,12 @@
 -- A lane after one more record was popped from its queue.
-use Rattle.std.proofs.Common.{ℕ, ◌≡◌, ◌≤◌, Bool, true, false, List, [], ◌∷◌, ◌++◌, length, take, All, refl, sym, ap, ◌∙◌, subst, inl, inr, arith}
+use Rattle.std.proofs.Common.{ℕ, ◌≡◌, ◌≤◌, false, List, [], ◌∷◌, ◌++◌, length, take, refl, sym, ap, ◌∙◌, subst, inl, inr, arith}
 use Rattle.std.proofs.lemmas.Bool.{cases_Bool}
 use Rattle.std.proofs.lemmas.List.{append-nil, length-append, take-append-le}
 use Rattle.std.proofs.lemmas.List.Elements.{All-append, All-cons, All-nil}
 use mathlib.Core.List.{IsPrefix}
 use Rattle.dt_record.specs.declared.records.Record.{Record}
 use Rattle.dt_queue.specs.Queue.{QueueName}
-use Rattle.dt_intake.specs.Fronts.{stamp_after, usable_front}
+use Rattle.dt_intake.specs.Fronts.{stamp_after}
 use Rattle.dt_intake.specs.Intakes.{IntakeView, is_feed_end, usable_of, with_record}
 use Rattle.dt_intake.specs.Laws.{UsableFrontGrows}
 use Rattle.dt_runs.specs.RunView.{RunView}

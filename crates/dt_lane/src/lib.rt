@@ -4,8 +4,6 @@
 
 mod ends;
 mod lanes;
-#[cfg(test)]
-mod tests;
 
 pub use ends::HartEnd;
 pub use lanes::Lane;

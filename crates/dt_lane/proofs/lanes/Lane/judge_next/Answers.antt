@@ -1,8 +1,8 @@
-use Rattle.std.proofs.Common.{rules, All, [], ◌∷◌, ◌++◌, ap, drop, sym, subst, ◌∙◌, ◌≡◌, IsTrue}
+use Rattle.std.proofs.Common.{rules, All, [], ◌∷◌, ◌++◌, ap, drop, sym, subst, ◌∙◌, IsTrue}
 use Rattle.dt_core.specs.Marks.{is_below}
 use Rattle.dt_record.specs.declared.records.Record.{Record}
 use Rattle.dt_lane.specs.Lanes.{IsJudgedBy, LaneView, judged_len, judged_of}
-use Rattle.dt_lane.proofs.Judging.{IsNext, WasJudged, found_next, next_may_be, judging_keeps, judged_more, judged_below, judged_on, with_run}
+use Rattle.dt_lane.proofs.Judging.{WasJudged, found_next, next_may_be, judging_keeps, judged_more, judged_below, judged_on, with_run}
 use Rattle.dt_lane.specs.contracts.lanes.Lane as lane
 use Rattle.dt_lane.proofs.lanes.Lane.judge_next.Goals as goal
 

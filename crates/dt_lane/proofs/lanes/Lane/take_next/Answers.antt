@@ -1,8 +1,5 @@
-use Rattle.std.proofs.Common.{refl, sym, ap, subst, ◌∙◌, ◌≡◌, List, [], ◌∷◌, ◌++◌, false}
-use Rattle.dt_record.specs.declared.records.Record.{Record}
-use Rattle.dt_queue.specs.Queue.{QueueName}
-use Rattle.dt_intake.specs.Intakes.{IntakeView, with_record}
-use Rattle.dt_lane.specs.Lanes.{IsLane, LaneView, judged_of}
+use Rattle.std.proofs.Common.{refl, sym, ap, ◌∙◌}
+use Rattle.dt_lane.specs.Lanes.{judged_of}
 use Rattle.dt_lane.proofs.Taking.{popped_into}
 use Rattle.dt_lane.specs.contracts.lanes.Lane as lane
 use Rattle.dt_lane.proofs.lanes.Lane.take_next.Goals as goal
