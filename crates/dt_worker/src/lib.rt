@@ -6,8 +6,6 @@ mod lanes;
 mod laws;
 mod looking;
 mod telling;
-#[cfg(test)]
-mod tests;
 mod workers;
 
 pub use dt_lane::HartEnd;
