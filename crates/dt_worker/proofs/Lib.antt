@@ -1,4 +1,0 @@
-mod AllTold
-mod EndLaws
-mod Steadiness
-mod Takings
