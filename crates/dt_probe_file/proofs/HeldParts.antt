@@ -71,7 +71,7 @@ pub stay_on_err : (r : Result Bool Failed) (held grown : List ℕ) (before after
 stay_on_err (Ok more) held grown before after same left = tt
 stay_on_err (Err e) held grown before after same left = (same, left)
 
-taken_twice : (before between after : Option (List ℕ)) (xs ys : List ℕ) → TakesFrom before xs between → TakesFrom between ys after → TakesFrom before (xs ++ ys) after
+pub taken_twice : (before between after : Option (List ℕ)) (xs ys : List ℕ) → TakesFrom before xs between → TakesFrom between ys after → TakesFrom before (xs ++ ys) after
 taken_twice before between None xs ys first second = first ∙ ap (option_map (λ rest. xs ++ rest)) second
 taken_twice before between (Some rest) xs ys first second =
     first ∙ ap (option_map (λ rest. xs ++ rest)) second ∙ ap Some (sym (append_assoc xs ys rest))

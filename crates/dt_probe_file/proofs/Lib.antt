@@ -6,6 +6,7 @@ pub mod HeaderFields
 pub mod Heading
 pub mod HeldParts
 pub mod OneAnswer
+pub mod Origins
 pub mod Proposed
 pub mod Stepping
 pub mod Telling

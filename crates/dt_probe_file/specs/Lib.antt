@@ -5,6 +5,7 @@ pub mod Found
 pub mod Fronts
 pub mod Headers
 pub mod Left
+pub mod Origins
 pub mod Parts
 pub mod Progress
 pub mod Told

@@ -44,6 +44,7 @@ pub(crate) enum Found {
 /// Reads until a whole header is held, no further than it has to.
 pub(crate) fn hear<S: Source>(source: &mut S, held: &mut Held) -> Heard
     ensures whole { whole held.new (S.left source.new) ≡ whole held.old (S.left source.old) }
+    ensures reads { ReadsOn held.old (S.left source.old) held.new (S.left source.new) }
     ensures heard { IsHeard held.new (S.left source.new) result }
     ensures fault { result ≡ Heard.Failed → Rose (S.faults source.old) (S.faults source.new) }
     ensures quiet { result ≢ Heard.Failed → S.faults source.new ≡ S.faults source.old }

@@ -1,9 +1,10 @@
-ghost use Rattle.std.specs.Prelude.{◌≡◌, ◌≢◌, ◌≤◌, ◌⊎◌, ◌↔◌, None, [], IfOk, IsTrue, IsSome, IsNone};
+ghost use Rattle.std.specs.Prelude.{◌≡◌, ◌≢◌, ◌≤◌, ◌⊎◌, ◌↔◌, ℕ, List, Option, None, [], IfOk, IsTrue, IsSome, IsNone};
 ghost use Rattle.std.specs.Option.{ForSome};
 ghost use Rattle.dt_record.specs.Streams.{Continues, TakesAnswer, Rose, IsFresh};
 ghost use Rattle.dt_record.specs.declared.streams.Next.{Next};
 ghost use Rattle.dt_probe_file.specs.Asking.{LeaveOpen, HadToRead};
 ghost use Rattle.dt_probe_file.specs.Fronts.{IsSound};
+ghost use Rattle.dt_probe_file.specs.Origins.{HasOpenFront, HasOrigin};
 ghost use Rattle.dt_probe_file.specs.Parts.{whole};
 ghost use Rattle.dt_probe_file.specs.Progress.{ended_by, progress_of};
 ghost use Rattle.dt_probe_file.specs.Told.{AreToldOf};
@@ -60,6 +61,7 @@ impl<S: Source + Drop> FileProbes<S> {
         ensures fresh { IfOk result (λ probes. IsFresh (⟦<FileProbes<S> as Probes>⟧.progress probes)) }
         ensures told { IfOk result (λ probes. AreToldOf (S.left source) (⟦<FileProbes<S> as Probes>⟧.left probes)) }
         ensures faults { IfOk result (λ probes. ⟦<FileProbes<S> as Probes>⟧.faults probes ≡ S.faults source) }
+        ensures origin { IfOk result (λ probes. ⟦<FileProbes<S> as Probes>⟧.has_origin probes (S.left source)) }
         ensures same_lent { IfOk result (λ probes. ⟦<FileProbes<S> as Probes>⟧.lent probes ≡ S.lent source) }
     {
         let room = Room::new(alloc)?;
@@ -72,6 +74,7 @@ impl<S: Source + Drop> FileProbes<S> {
         ensures fresh { IsFresh (⟦<FileProbes<S> as Probes>⟧.progress result) }
         ensures told { AreToldOf (S.left source) (⟦<FileProbes<S> as Probes>⟧.left result) }
         ensures faults { ⟦<FileProbes<S> as Probes>⟧.faults result ≡ S.faults source }
+        ensures origin { ⟦<FileProbes<S> as Probes>⟧.has_origin result (S.left source) }
         ensures same_lent { ⟦<FileProbes<S> as Probes>⟧.lent result ≡ S.lent source }
     {
         FileProbes {
@@ -86,6 +89,8 @@ impl<S: Source + Drop> FileProbes<S> {
     /// back knows what became of it.
     pub fn into_source(self) -> S
         ensures faults { S.faults result ≡ ⟦<FileProbes<S> as Probes>⟧.faults self }
+        ensures left_open { (bytes : Option (List ℕ)) → ⟦<FileProbes<S> as Probes>⟧.leaves_open self bytes
+            → HasOpenFront bytes (S.left result) }
         ensures same_lent { S.lent result ≡ ⟦<FileProbes<S> as Probes>⟧.lent self }
     {
         self.source
@@ -101,7 +106,9 @@ impl<S: Source> Probes for FileProbes<S> {
 
     ghost faults = { λ p. S.faults p.source };
 
-    ghost had_to_read = { λ p q. HadToRead p.opened p.held (S.left p.source) (S.left q.source) };
+    ghost has_origin = { λ p bytes. HasOrigin bytes p.opened p.ended p.held (S.left p.source) };
+
+    ghost leaves_open = { λ p bytes. HasOpenFront bytes (S.left p.source) };
 
     ghost lent = { λ p. S.lent p.source };
 
@@ -120,8 +127,12 @@ impl<S: Source> Probes for FileProbes<S> {
             → Rose (⟦<FileProbes<S> as Probes>⟧.faults self.old) (⟦<FileProbes<S> as Probes>⟧.faults self.new) }
         ensures quiet { result ≢ Next.ReadFault
             → ⟦<FileProbes<S> as Probes>⟧.faults self.new ≡ ⟦<FileProbes<S> as Probes>⟧.faults self.old }
-        ensures needed { result ≡ Next.ReadFault → HadToRead (opened_in self.old) (held_in self.old)
+        ensures needed { result ≡ Next.ReadFault → (bytes : Option (List ℕ))
+            → ⟦<FileProbes<S> as Probes>⟧.has_origin self.old bytes → ⟦<FileProbes<S> as Probes>⟧.leaves_open self.new bytes }
+        ensures had_to_read { result ≡ Next.ReadFault → HadToRead (opened_in self.old) (held_in self.old)
             (S.left (source_of self.old)) (S.left (source_of self.new)) }
+        ensures same_origin { (bytes : Option (List ℕ))
+            → ⟦<FileProbes<S> as Probes>⟧.has_origin self.old bytes → ⟦<FileProbes<S> as Probes>⟧.has_origin self.new bytes }
         ensures idle { (source_of self.new ≡ source_of self.old) ⊎ LeaveOpen (opened_in self.old) (held_in self.old) }
         ensures no_want { result ≢ Next.OutOfMemory }
         ensures same_lent { ⟦<FileProbes<S> as Probes>⟧.lent self.new ≡ ⟦<FileProbes<S> as Probes>⟧.lent self.old }

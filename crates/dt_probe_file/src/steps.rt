@@ -1,10 +1,11 @@
-ghost use Rattle.std.specs.Prelude.{◌≡◌, ◌≢◌, ◌<◌, ◌≤◌, ◌⊎◌, ◌++◌, ℕ, List, [], true, false, None, Some, IfSome, OnErr, OnOk, length};
+ghost use Rattle.std.specs.Prelude.{◌≡◌, ◌≢◌, ◌<◌, ◌≤◌, ◌⊎◌, ◌++◌, ℕ, List, [], true, false, Option, None, Some, IfSome, OnErr, OnOk, length};
 ghost use Rattle.dt_record.specs.Spelling.{end_bytes};
 ghost use Rattle.dt_record.specs.Streams.{Continues, Rose};
 ghost use Rattle.dt_probe_file.specs.Asking.{LeaveOpen, HadToRead};
 ghost use Rattle.dt_probe_file.specs.declared.fronts.Front.TheVariants as fronts;
 ghost use Rattle.dt_probe_file.specs.Fronts.{IsSound, IsFront, reading_of};
-ghost use Rattle.dt_probe_file.specs.Parts.{whole};
+ghost use Rattle.dt_probe_file.specs.Origins.{KeepsOrigin};
+ghost use Rattle.dt_probe_file.specs.Parts.{ReadsOn, whole};
 ghost use Rattle.dt_probe_file.specs.Progress.{ended_by, progress_of};
 ghost use Rattle.dt_probe_file.specs.Left.{Takes};
 
@@ -30,6 +31,8 @@ fn step_over(held: &mut Held, opened: &Opened, event: &Record, len: usize) -> St
     ensures told { (rest : List ℕ)
         → Takes (Some opened.now) (Some (held.old ++ rest)) result.answer result.opened (Some (held.new ++ rest)) }
     ensures step { Continues (progress_of (Some opened.now) None) result.answer (progress_of result.opened (ended_by result.answer)) }
+    ensures keeps { (left : Option (List ℕ))
+        → KeepsOrigin (Some opened.now) held.old left result.opened (ended_by result.answer) held.new left }
     ensures sound { IfSome result.opened IsSound }
     ensures no_fault { result.answer ≢ Next.ReadFault }
     ensures no_want { result.answer ≢ Next.OutOfMemory }
@@ -56,6 +59,7 @@ fn step_over(held: &mut Held, opened: &Opened, event: &Record, len: usize) -> St
 /// Whether more bytes come than were answered: a read is made only where none are held.
 fn is_more<S: Source>(source: &mut S, held: &mut Held) -> Result<bool, Failed>
     ensures whole { whole held.new (S.left source.new) ≡ whole held.old (S.left source.old) }
+    ensures reads { ReadsOn held.old (S.left source.old) held.new (S.left source.new) }
     ensures more { result ≡ Ok true → 0 < length held.new }
     ensures none { result ≡ Ok false → (held.new ≡ []) × IfSome (S.left source.new) (λ rest. rest ≡ []) }
     ensures quiet { OnOk result (S.faults source.new ≡ S.faults source.old) }
@@ -78,6 +82,8 @@ fn step_end<S: Source>(source: &mut S, held: &mut Held, opened: &Opened) -> Step
     requires front { IsFront (reading_of opened.now) held.old fronts.End }
     ensures told { Takes (Some opened.now) (whole held.old (S.left source.old)) result.answer
         result.opened (whole held.new (S.left source.new)) }
+    ensures keeps { KeepsOrigin (Some opened.now) held.old (S.left source.old)
+        result.opened (ended_by result.answer) held.new (S.left source.new) }
     ensures step { Continues (progress_of (Some opened.now) None) result.answer (progress_of result.opened (ended_by result.answer)) }
     ensures sound { IfSome result.opened IsSound }
     ensures quiet { result.answer ≢ Next.ReadFault → S.faults source.new ≡ S.faults source.old }
@@ -115,6 +121,8 @@ pub(crate) fn step_behind<S: Source>(source: &mut S, held: &mut Held, opened: &O
     requires { IsSound opened.now }
     ensures told { Takes (Some opened.now) (whole held.old (S.left source.old)) result.answer
         result.opened (whole held.new (S.left source.new)) }
+    ensures keeps { KeepsOrigin (Some opened.now) held.old (S.left source.old)
+        result.opened (ended_by result.answer) held.new (S.left source.new) }
     ensures step { Continues (progress_of (Some opened.now) None) result.answer (progress_of result.opened (ended_by result.answer)) }
     ensures sound { IfSome result.opened IsSound }
     ensures quiet { result.answer ≢ Next.ReadFault → S.faults source.new ≡ S.faults source.old }
@@ -143,6 +151,7 @@ pub(crate) fn step_behind<S: Source>(source: &mut S, held: &mut Held, opened: &O
 /// The first answer of a file.
 pub(crate) fn step_header<S: Source>(source: &mut S, held: &mut Held) -> Step
     ensures told { Takes None (whole held.old (S.left source.old)) result.answer result.opened (whole held.new (S.left source.new)) }
+    ensures keeps { KeepsOrigin None held.old (S.left source.old) result.opened (ended_by result.answer) held.new (S.left source.new) }
     ensures step { Continues (progress_of None None) result.answer (progress_of result.opened (ended_by result.answer)) }
     ensures sound { IfSome result.opened IsSound }
     ensures quiet { result.answer ≢ Next.ReadFault → S.faults source.new ≡ S.faults source.old }

@@ -1,4 +1,4 @@
-ghost use Rattle.std.specs.Prelude.{◌≡◌, ◌≢◌, ◌≤◌, Some, Err, IfOk, IfErr, IfSome, OnOk};
+ghost use Rattle.std.specs.Prelude.{◌≡◌, ◌≢◌, ◌≤◌, ℕ, List, Option, Some, Err, IfOk, IfErr, IfSome, OnOk};
 ghost use Rattle.dt_record.specs.Streams.{IsFresh, Rose};
 ghost use Rattle.dt_verdict.specs.declared.answers.Refusal.TheVariants as refusal;
 ghost use Rattle.dt_reading.specs.Reading.{IsRefusedAt, refusal_in, with_header};
@@ -26,6 +26,9 @@ pub fn read_header<P: Probes>(probes: &mut P) -> Result<StreamHeader, Refusal>
     ensures refused_at { IfErr result (λ r. IsRefusedAt (P.progress probes.new) r) }
     ensures fault { result ≡ Err refusal.ReadFault → Rose (P.faults probes.old) (P.faults probes.new) }
     ensures quiet { result ≢ Err refusal.ReadFault → P.faults probes.new ≡ P.faults probes.old }
+    ensures needed { result ≡ Err refusal.ReadFault
+        → (bytes : Option (List ℕ)) → P.has_origin probes.old bytes → P.leaves_open probes.new bytes }
+    ensures same_origin { (bytes : Option (List ℕ)) → P.has_origin probes.old bytes → P.has_origin probes.new bytes }
     ensures never_falls { P.faults probes.old ≤ P.faults probes.new }
     ensures same_lent { P.lent probes.new ≡ P.lent probes.old }
 {

@@ -10,7 +10,9 @@ impl<P: Probes> Probes for &mut P {
 
     ghost faults = { λ r. P.faults r.now };
 
-    ghost had_to_read = { λ r q. P.had_to_read r.now q.now };
+    ghost has_origin = { λ r bytes. P.has_origin r.now bytes };
+
+    ghost leaves_open = { λ r bytes. P.leaves_open r.now bytes };
 
     ghost lent = { λ r. r.ghost_name ∷ P.lent r.now };
 

@@ -2,7 +2,7 @@ ghost use Rattle.std.specs.Borrow.{GName};
 ghost use Rattle.std.specs.Prelude.{◌≡◌, ◌≢◌, ℕ, ◌<◌, ◌≤◌, ◌↔◌, List, [], length, Option, IsTrue, IsSome, IsNone};
 ghost use Rattle.dt_record.specs.declared.streams.Next.{Next};
 ghost use Rattle.dt_record.specs.Streams.{Progress, Continues, TakesAnswer, Rose};
-ghost use Rattle.dt_record.specs.Filling.{ContinuesBy, TakesAnswers, block_answers, events_of};
+ghost use Rattle.dt_record.specs.Filling.{ContinuesBy, TakesAnswers, block_answers};
 
 use crate::blocks::Block;
 use crate::records::Record;
@@ -60,9 +60,13 @@ pub trait Probes {
     // them, so who lent a source knows what became of it once the stream is gone.
     ghost lent: { Self → List GName } = { λ _. [] };
 
-    // What is known of the stream before and after a call in which a read failed: of one that reads
-    // bytes, that those which were read by then leave the answer open.
-    ghost had_to_read: { Self → Self → Type 0 } = { λ _ _. Unit {0} };
+    // That these are the bytes that the stream is a stream of, in which it has come as far as its
+    // answers say: those that its source had at first, or None where it does not tell them.
+    ghost has_origin: { Self → Option (List ℕ) → Type 0 } = { λ _ _. Unit {0} };
+
+    // What is known of a stream of these bytes in which a read failed: that those which were read by
+    // then leave the answer open.
+    ghost leaves_open: { Self → Option (List ℕ) → Type 0 } = { λ _ _. Unit {0} };
 
     fn is_over(&self) -> bool
         ensures { IsTrue result ↔ IsSome (progress self.now).ended };
@@ -75,7 +79,8 @@ pub trait Probes {
         ensures rising { faults self.old ≤ faults self.new }
         ensures fault { result ≡ Next.ReadFault → Rose (faults self.old) (faults self.new) }
         ensures quiet { result ≢ Next.ReadFault → faults self.new ≡ faults self.old }
-        ensures needed { result ≡ Next.ReadFault → had_to_read self.old self.new }
+        ensures needed { result ≡ Next.ReadFault → (bytes : Option (List ℕ)) → has_origin self.old bytes → leaves_open self.new bytes }
+        ensures same_origin { (bytes : Option (List ℕ)) → has_origin self.old bytes → has_origin self.new bytes }
         ensures same_lent { lent self.new ≡ lent self.old };
 
     /// The next answers behind the header, as so many calls of `next` give them: the records go into
@@ -90,10 +95,8 @@ pub trait Probes {
         ensures rising { faults self.old ≤ faults self.new }
         ensures fault { result ≡ Stop.ReadFault → Rose (faults self.old) (faults self.new) }
         ensures quiet { result ≢ Stop.ReadFault → faults self.new ≡ faults self.old }
-        ensures needed { result ≡ Stop.ReadFault → (before : Self)
-            × ContinuesBy (progress self.old) (events_of block.new.records) (progress before)
-            × TakesAnswers (left self.old) (events_of block.new.records) (left before)
-            × had_to_read before self.new }
+        ensures needed { result ≡ Stop.ReadFault → (bytes : Option (List ℕ)) → has_origin self.old bytes → leaves_open self.new bytes }
+        ensures same_origin { (bytes : Option (List ℕ)) → has_origin self.old bytes → has_origin self.new bytes }
         ensures same_lent { lent self.new ≡ lent self.old }
     {
         'filling: while block.has_room() {

@@ -1,5 +1,6 @@
-use Rattle.std.proofs.Common.{Bool, Ok, ap}
+use Rattle.std.proofs.Common.{Bool, Ok, Some, ap}
 use Rattle.dt_probe_file.proofs.AskingFor.{only_end}
+use Rattle.dt_probe_file.proofs.Origins.{keep_end}
 use Rattle.dt_probe_file.proofs.Stepping.{end_followed, end_alone}
 use Rattle.dt_probe_file.proofs.steps.step_end.Goals as goal
 
@@ -16,3 +17,6 @@ pub returns-in-Err-clause-needed : goal.returns-in-Err-clause-needed
 returns-in-Err-clause-needed g c = λ _.
     let held = c.in-Err.ensures.needed in
     (only_end c.args.opened.now c.args.held.now c.take_away.new.self c.requires.front c.take_away.ensures held.0, held.1)
+
+pub returns-in-Ok-true-clause-keeps : goal.returns-in-Ok-true-clause-keeps
+returns-in-Ok-true-clause-keeps g c = keep_end (Some c.args.opened.now) (Some c.args.opened.now) _ _ _ _ _ _ c.in-Ok-true.ensures.reads.2

@@ -1,6 +1,7 @@
 use Rattle.std.proofs.Common.{[], refl, ◌++◌}
 use Rattle.dt_probe_file.specs.Fronts.{reading_of}
 use Rattle.dt_probe_file.specs.Computing.{answers_after}
+use Rattle.dt_probe_file.proofs.Origins.{keep_event}
 use Rattle.dt_probe_file.proofs.Stepping.{limit_over, event_over, takes_record}
 use Rattle.dt_probe_file.proofs.steps.step_over.Goals as goal
 
@@ -18,3 +19,7 @@ returns-in-None-clause-told c rest = (
 pub returns-in-None-clause-step : goal.returns-in-None-clause-step
 returns-in-None-clause-step c =
     takes_record c.args.opened.now c.advanced-after.result c.args.event.now c.requires.front.0.next c.in-None.ensures c.advanced-after.ensures.reading c.advanced-after.ensures.harts c.advanced-after.ensures.wide
+
+pub returns-in-None-clause-keeps : goal.returns-in-None-clause-keeps
+returns-in-None-clause-keeps c left =
+    keep_event c.args.opened.now c.advanced-after.result c.args.event.now c.args.len c.args.held.now c.take_away.new.self left c.requires.front c.in-None.ensures c.advanced-after.ensures.reading c.advanced-after.ensures.harts c.advanced-after.ensures.wide c.take_away.ensures

@@ -11,6 +11,7 @@ filling-preserved g c = record {
   told = takes-record _ _ _ _ _ _ c.push.ensures.records c.filling.invariant.told c.in-Event.ensures.told;
   some = inr (omega (arith, ap length c.push.ensures.records, length-append c.filling.block.records (c.in-Event.event ∷ [])));
   quiet = c.in-Event.ensures.quiet (event_did_not_fail c.in-Event.event) ∙ c.filling.invariant.quiet;
+  same_origin = λ bytes origin. c.in-Event.ensures.same_origin bytes (c.filling.invariant.same_origin bytes origin);
   same_lent = c.in-Event.ensures.same_lent ∙ c.filling.invariant.same_lent;
 }
 
