@@ -1,5 +1,6 @@
 ghost use Rattle.std.specs.Prelude.{◌≡◌, ◌≢◌, ◌<◌, ◌≤◌, ◌+◌, ◌⊎◌, Err, IfOk, OnErr, OnOk, slice_index, slice_set};
 ghost use Rattle.std.specs.String.{string_bytes};
+ghost use Rattle.dt_record.specs.declared.limits.TheConstants.{RECORD_LIMIT};
 ghost use Rattle.dt_source.specs.Faults.{Rose};
 ghost use Rattle.dt_source.specs.Known.{Appends};
 ghost use Rattle.dt_text.specs.Line.{line_text};
@@ -52,7 +53,7 @@ pub fn put_record<O: Sink>(
     out: &mut O,
 ) -> Result<(), Stop>
     requires hart { event.now.hart < 8 }
-    requires few { slice_index counts.old event.now.hart < 4_194_304 }
+    requires few { slice_index counts.old event.now.hart < RECORD_LIMIT }
     ensures ok { OnOk result (Appends (O.written out.old)
         (line_text (slice_index counts.old event.now.hart) event.now) (O.written out.new)) }
     ensures counted { OnOk result (counts.new

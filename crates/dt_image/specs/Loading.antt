@@ -1,4 +1,5 @@
 use Rattle.std.specs.Prelude.{ℕ, List, length, nat_le, if◌then◌else◌, Result, Ok, Err}
+use Rattle.dt_record.specs.declared.limits.TheConstants.{IMAGE_LIMIT}
 use Rattle.dt_source.specs.declared.whole.ReadRefusal.{ReadRefusal}
 use Rattle.dt_source.specs.declared.whole.ReadRefusal.TheVariants as read
 use Rattle.dt_image.specs.declared.images.ImageRefusal.{ImageRefusal}
@@ -6,7 +7,7 @@ use Rattle.dt_image.specs.declared.images.ImageRefusal.TheVariants.{TooLong, Rea
 
 -- the image of these bytes, of which there may be 16,777,216 (this project's own limit)
 abbrev pub loaded : List ℕ → Result (List ℕ) ImageRefusal
-loaded bytes = if nat_le (length bytes) 16777216 then Ok bytes else Err TooLong
+loaded bytes = if nat_le (length bytes) IMAGE_LIMIT then Ok bytes else Err TooLong
 
 -- why there is no image, where a source was not read to its end
 abbrev pub image_refusal : ReadRefusal → ImageRefusal

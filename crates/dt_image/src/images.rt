@@ -1,4 +1,5 @@
 ghost use Rattle.std.specs.Prelude.{◌≡◌, ◌≢◌, ◌≤◌, ℕ, [], IfOk, IfSome, OnOk, OnErr, length};
+ghost use Rattle.dt_record.specs.declared.limits.TheConstants.{IMAGE_LIMIT};
 ghost use Rattle.dt_source.specs.Faults.{Rose};
 ghost use Rattle.dt_source.specs.Known.{TakesFrom, TakesSome};
 ghost use Rattle.dt_image.specs.Loading.{loaded};
@@ -37,7 +38,7 @@ pub fn load<S: Source>(alloc: Global, source: &mut S) -> Result<Image, ImageRefu
     // The image is all that was left, and nothing is left then.
     ensures takes { IfOk result (λ image. TakesFrom (S.left source.old) image (S.left source.new)) }
     ensures end { OnOk result (IfSome (S.left source.new) (λ rest. rest ≡ [])) }
-    ensures within { IfOk result (λ image. length image ≤ 16777216) }
+    ensures within { IfOk result (λ image. length image ≤ IMAGE_LIMIT) }
 
     // Whatever failed: another answer than those of a fault or of want of memory is that of the
     // bytes that were left.
@@ -54,7 +55,7 @@ pub fn load<S: Source>(alloc: Global, source: &mut S) -> Result<Image, ImageRefu
     ensures fault_only { result ≡ Err ImageRefusal.ReadFault
         → Rose (S.faults source.old) (S.faults source.new) }
     ensures fault_takes { result ≡ Err ImageRefusal.ReadFault
-        → ((n : ℕ) × (n ≤ 16777216) × TakesSome (S.left source.old) (S.left source.new) n) }
+        → ((n : ℕ) × (n ≤ IMAGE_LIMIT) × TakesSome (S.left source.old) (S.left source.new) n) }
     ensures refused_takes { OnErr result
         ((n : ℕ) × (n ≤ 16777217) × TakesSome (S.left source.old) (S.left source.new) n) }
     ensures never_falls { S.faults source.old ≤ S.faults source.new }

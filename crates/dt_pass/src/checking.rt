@@ -1,5 +1,6 @@
 ghost use Rattle.std.specs.Prelude.{◌≡◌, ◌≢◌, ◌≤◌, IfOk, IfErr, IfSome, OnOk, Some, None, Err, length, map};
 ghost use Rattle.std.specs.List.{range_with_len};
+ghost use Rattle.dt_record.specs.declared.limits.TheConstants.{RECORD_LIMIT};
 ghost use Rattle.dt_record.specs.Keys.{records_of};
 ghost use Rattle.dt_record.specs.Streams.{IsFresh, Rose};
 ghost use Rattle.dt_tallies.specs.Counting.{counts_of};
@@ -105,7 +106,7 @@ pub fn checked(
     notes: Vec<Noted>,
 ) -> Result<Checked, AllocError>
     requires few_harts { harts ≤ 8 }
-    requires few_records { length records.now ≤ 4194304 }
+    requires few_records { length records.now ≤ RECORD_LIMIT }
     ensures { IfOk result (λ checked. ComesTo harts records.now verdict notes.items checked) }
 {
     let tallies = tallied(alloc, harts, records, limit_of(&verdict), notes)?;
@@ -125,7 +126,7 @@ fn tallied(
     notes: Vec<Noted>,
 ) -> Result<Tallies, AllocError>
     requires few_harts { harts ≤ 8 }
-    requires few_records { length records.now ≤ 4194304 }
+    requires few_records { length records.now ≤ RECORD_LIMIT }
     ensures counts { IfOk result (λ tallies. tallies.harts
         ≡ map (λ hart. counts_of limit (records_of hart records.now)) (range_with_len 0 harts)) }
     ensures notes { IfOk result (λ tallies. tallies.notes ≡ named_notes limit notes.items) }
@@ -143,7 +144,7 @@ fn counted(
     limit: Option<Key>,
 ) -> Result<HartCounts, AllocError>
     requires few_harts { harts ≤ 8 }
-    requires few_records { length records.now ≤ 4194304 }
+    requires few_records { length records.now ≤ RECORD_LIMIT }
     ensures { IfOk result (λ counts. counts ≡ map (λ hart. counts_of limit (records_of hart records.now)) (range_with_len 0 harts)) }
 {
     let mut counts = Vec::new(alloc);

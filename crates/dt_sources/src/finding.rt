@@ -1,4 +1,5 @@
 ghost use Rattle.std.specs.Prelude.{◌≡◌, ℕ, ◌+◌, ◌%◌, ◌≤◌, ◌<◌, List, Some, true, false, length, take, slice_get, IsTrue, MatchOption};
+ghost use Rattle.dt_record.specs.declared.limits.TheConstants.{RAM_END, RAM_START};
 ghost use Rattle.dt_record.specs.Actions.{Action};
 ghost use Rattle.dt_stores.specs.Standing.{StoresStand};
 ghost use Rattle.dt_stores.specs.Draining.{forward_after};
@@ -50,7 +51,7 @@ pub fn find(m: &Moments, s: &Stores, l: &Local, ask: LoadAsk) -> Found
 
 /// What is known of each byte of a load before any moment is tried.
 fn known_bytes(s: &Stores, l: &Local, ask: LoadAsk) -> [LoadByte; 8]
-    requires in_ram { ask.addr < 0x8400_0000 }
+    requires in_ram { ask.addr < RAM_END }
     ensures own { (actions : List Action) → StoresStand s.now actions → (i : ℕ) (b : LoadByte) → slice_get result i ≡ Some b
         → b.own ≡ forward_after actions (ask.addr + i) ask.at }
     ensures newest { (i : ℕ) (b : LoadByte) → slice_get result i ≡ Some b → b.newest ≡ newest_of l.now (ask.addr + i) }
@@ -79,8 +80,8 @@ fn known_byte(s: &Stores, l: &Local, addr: u64, at: u64) -> LoadByte
 /// to the next all moments fit alike, so none is tried but the span's first and the changes after it.
 fn least_fit(m: &Moments, span: Span, addr: u64, raw: u64, bytes: &[LoadByte]) -> Option<u32>
     requires within { span.last ≤ length m.now.writes }
-    requires in_ram { 0x8000_0000 ≤ addr }
-    requires before_end { addr + length bytes.now ≤ 0x8400_0000 }
+    requires in_ram { RAM_START ≤ addr }
+    requires before_end { addr + length bytes.now ≤ RAM_END }
     requires some { 0 < length bytes.now }
     requires in_word { addr % 8 + length bytes.now ≤ 8 }
     ensures least { MatchOption result ((k : ℕ) → span.first ≤ k → k ≤ span.last

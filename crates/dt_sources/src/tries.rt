@@ -1,4 +1,5 @@
 ghost use Rattle.std.specs.Prelude.{◌≡◌, ℕ, ◌+◌, ◌≤◌, ◌<◌, ◌==◌, Some, length, slice_get};
+ghost use Rattle.dt_record.specs.declared.limits.TheConstants.{RAM_END, RAM_START};
 ghost use Rattle.dt_record.specs.LoadSources.{rank_below};
 ghost use Rattle.dt_record.specs.declared.origins.Origin.TheVariants as origin;
 ghost use Rattle.dt_versions.specs.Laws.{source_rank};
@@ -21,8 +22,8 @@ pub struct LoadByte {
 /// and none comes from below the newest key that the hart knows for it.
 pub fn is_fit(m: &Moments, k: u32, addr: u64, raw: u64, bytes: &[LoadByte]) -> bool
     requires within { k ≤ length m.now.writes }
-    requires in_ram { 0x8000_0000 ≤ addr }
-    requires before_end { addr + length bytes.now ≤ 0x8400_0000 }
+    requires in_ram { RAM_START ≤ addr }
+    requires before_end { addr + length bytes.now ≤ RAM_END }
     ensures { result ≡ are_fit m.now k addr raw bytes.now }
 {
     gives_value(m, k, addr, raw, bytes) && keeps_newest(m, k, addr, bytes)
@@ -30,8 +31,8 @@ pub fn is_fit(m: &Moments, k: u32, addr: u64, raw: u64, bytes: &[LoadByte]) -> b
 
 fn gives_value(m: &Moments, k: u32, addr: u64, raw: u64, bytes: &[LoadByte]) -> bool
     requires within { k ≤ length m.now.writes }
-    requires in_ram { 0x8000_0000 ≤ addr }
-    requires before_end { addr + length bytes.now ≤ 0x8400_0000 }
+    requires in_ram { RAM_START ≤ addr }
+    requires before_end { addr + length bytes.now ≤ RAM_END }
     ensures { result ≡ (tried_value m.now k addr bytes.now == raw) }
 {
     let mut rest = raw;
@@ -49,8 +50,8 @@ fn gives_value(m: &Moments, k: u32, addr: u64, raw: u64, bytes: &[LoadByte]) -> 
 
 fn keeps_newest(m: &Moments, k: u32, addr: u64, bytes: &[LoadByte]) -> bool
     requires within { k ≤ length m.now.writes }
-    requires in_ram { 0x8000_0000 ≤ addr }
-    requires before_end { addr + length bytes.now ≤ 0x8400_0000 }
+    requires in_ram { RAM_START ≤ addr }
+    requires before_end { addr + length bytes.now ≤ RAM_END }
     ensures { result ≡ are_kept m.now k addr bytes.now }
 {
     let mut at = addr;
@@ -65,8 +66,8 @@ fn keeps_newest(m: &Moments, k: u32, addr: u64, bytes: &[LoadByte]) -> bool
 
 fn byte_at(m: &Moments, k: u32, addr: u64, b: &LoadByte) -> u8
     requires within { k ≤ length m.now.writes }
-    requires in_ram { 0x8000_0000 ≤ addr }
-    requires before_end { addr < 0x8400_0000 }
+    requires in_ram { RAM_START ≤ addr }
+    requires before_end { addr < RAM_END }
     ensures { result ≡ tried_byte m.now k addr b.now }
 {
     match b.own {
@@ -78,8 +79,8 @@ fn byte_at(m: &Moments, k: u32, addr: u64, b: &LoadByte) -> u8
 /// Whether the byte comes from below the newest key that the hart knows for it.
 fn is_below_newest(m: &Moments, k: u32, addr: u64, b: &LoadByte) -> bool
     requires within { k ≤ length m.now.writes }
-    requires in_ram { 0x8000_0000 ≤ addr }
-    requires before_end { addr < 0x8400_0000 }
+    requires in_ram { RAM_START ≤ addr }
+    requires before_end { addr < RAM_END }
     ensures { result ≡ rank_below (tried_rank m.now k addr b.now) (source_rank b.now.newest) }
 {
     match b.own {
@@ -108,8 +109,8 @@ fn is_below(source: Option<Key>, newest: Option<Key>) -> bool
 /// The sources of bytes from an address on, read at a moment. Further entries are `Image`.
 pub fn origins_at(m: &Moments, k: u32, addr: u64, bytes: &[LoadByte]) -> [Origin; 8]
     requires within { k ≤ length m.now.writes }
-    requires in_ram { 0x8000_0000 ≤ addr }
-    requires before_end { addr + length bytes.now ≤ 0x8400_0000 }
+    requires in_ram { RAM_START ≤ addr }
+    requires before_end { addr + length bytes.now ≤ RAM_END }
     requires narrow { length bytes.now ≤ 8 }
     ensures from { (i : ℕ) (b : LoadByte) → slice_get bytes.now i ≡ Some b → slice_get result i ≡ Some (tried_origin m.now k (addr + i) b) }
     ensures no_more { (i : ℕ) → length bytes.now ≤ i → i < 8 → slice_get result i ≡ Some origin.Image }
@@ -123,8 +124,8 @@ pub fn origins_at(m: &Moments, k: u32, addr: u64, bytes: &[LoadByte]) -> [Origin
 
 fn origin_at(m: &Moments, k: u32, addr: u64, b: &LoadByte) -> Origin
     requires within { k ≤ length m.now.writes }
-    requires in_ram { 0x8000_0000 ≤ addr }
-    requires before_end { addr < 0x8400_0000 }
+    requires in_ram { RAM_START ≤ addr }
+    requires before_end { addr < RAM_END }
     ensures { result ≡ tried_origin m.now k addr b.now }
 {
     match b.own {

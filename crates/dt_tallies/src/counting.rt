@@ -1,4 +1,5 @@
 ghost use Rattle.std.specs.Prelude.{◌≡◌, ◌≤◌, length, if◌then◌else◌};
+ghost use Rattle.dt_record.specs.declared.limits.TheConstants.{RECORD_LIMIT};
 ghost use Rattle.dt_record.specs.Keys.{key_of, records_of};
 ghost use Rattle.dt_record.specs.Writes.{writes_memory};
 ghost use Rattle.dt_tallies.specs.Counting.{is_below, is_retired, counts_of, with_record, AreAtMost};
@@ -9,7 +10,7 @@ use dt_verdict::Counts;
 /// How many records of each kind a hart has among the records of a file, which come in the order of
 /// the file. With a limit, as the key of the failing record, only records with a key below it count.
 pub fn count(records: &[Record], hart: u8, limit: Option<Key>) -> Counts
-    requires { length records.now ≤ 4194304 }
+    requires { length records.now ≤ RECORD_LIMIT }
     ensures { result ≡ counts_of limit (records_of hart records.now) }
 {
     let mut counts = Counts::default();

@@ -1,4 +1,5 @@
 use Rattle.std.specs.Prelude.{ℕ, ◌≡◌, ◌≤◌, ◌<◌, ◌+◌, ◌%◌, ◌==◌, ⊤, Bool, true, false, IsTrue, List, Option, option_map, option_and_then, is_some}
+use Rattle.dt_record.specs.declared.limits.TheConstants.{RAM_END, RAM_START}
 use Rattle.dt_record.specs.declared.writes.Write.{Write}
 use Rattle.dt_versions.specs.declared.moments.Span.{Span}
 use Rattle.dt_walk.specs.declared.arguments.WalkArgs.{WalkArgs}
@@ -51,6 +52,6 @@ fetch_moments image writes window since a half =
 
 -- two bytes of RAM stand at the even page address that a translation gave, where it gave one
 abbrev pub LeadsToHalf : WalkAnswer → Type 0
-LeadsToHalf (Page addr) = (addr % 2 ≡ 0) × (0x8000_0000 ≤ addr) × (addr + 1 < 0x8400_0000)
+LeadsToHalf (Page addr) = (addr % 2 ≡ 0) × (RAM_START ≤ addr) × (addr + 1 < RAM_END)
 LeadsToHalf PageFault = ⊤
 LeadsToHalf AccessFault = ⊤

@@ -1,4 +1,5 @@
 ghost use Rattle.std.specs.Prelude.{◌≡◌, ◌≤◌, ◌<◌, ◌+◌, ◌%◌, length, true};
+ghost use Rattle.dt_record.specs.declared.limits.TheConstants.{RAM_END, RAM_START};
 ghost use Rattle.dt_walk.specs.Walk.{CanWalk};
 ghost use Rattle.dt_translate.specs.Fetches.{LeadsToHalf};
 ghost use Rattle.dt_translate.specs.Outcomes.{half_at, outcome_at};
@@ -38,8 +39,8 @@ pub fn fetch_outcome(moments: &Moments, k: u32, a: WalkArgs) -> WalkAnswer
 #[tactic(auto, unfolding(crate::specs::Outcomes::half_at))]
 pub fn half(moments: &Moments, k: u32, addr: u64) -> u16
     requires within { k ≤ length moments.now.writes }
-    requires in_ram { 0x8000_0000 ≤ addr }
-    requires before_end { addr + 1 < 0x8400_0000 }
+    requires in_ram { RAM_START ≤ addr }
+    requires before_end { addr + 1 < RAM_END }
     ensures { result ≡ half_at moments.now.image moments.now.writes k addr }
 {
     u16::from_le_bytes([moments.byte(k, addr), moments.byte(k, addr + 1)])

@@ -1,4 +1,5 @@
 ghost use Rattle.std.specs.Prelude.{◌≡◌, ◌≤◌, ◌<◌, ◌+◌, ◌%◌, ◌==◌, length, IsTrue, IfSome, IfNone};
+ghost use Rattle.dt_record.specs.declared.limits.TheConstants.{RAM_END, RAM_START};
 ghost use Rattle.dt_walk.specs.Walk.{CanWalk};
 ghost use Rattle.dt_translate.specs.Fetches.{IsChosen, IsNeverFetched, LeadsToHalf, fetch_moments, stands_at};
 ghost use Rattle.dt_translate.specs.Newest.{HasNone, IsNewest};
@@ -42,8 +43,8 @@ pub fn allowed(
 fn newest_half(m: &Moments, span: Span, addr: u64, wanted: u16) -> Option<u32>
     requires within { span.last ≤ length m.now.writes }
     requires even { addr % 2 ≡ 0 }
-    requires in_ram { 0x8000_0000 ≤ addr }
-    requires before_end { addr + 1 < 0x8400_0000 }
+    requires in_ram { RAM_START ≤ addr }
+    requires before_end { addr + 1 < RAM_END }
     ensures found { IfSome result (λ k. IsNewest (λ j. IsTrue (half_at m.now.image m.now.writes j addr == wanted)) span k) }
     ensures none { IfNone result (HasNone (λ j. IsTrue (half_at m.now.image m.now.writes j addr == wanted)) span) }
 {

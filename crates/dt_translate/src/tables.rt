@@ -1,4 +1,5 @@
 ghost use Rattle.std.specs.Prelude.{◌≡◌, ℕ, ◌≤◌, ◌<◌, ◌%◌, length, All};
+ghost use Rattle.dt_record.specs.declared.limits.TheConstants.{RAM_END, RAM_START};
 ghost use Rattle.dt_versions.specs.Words.{IsSteady};
 ghost use Rattle.dt_walk.specs.Walk.{CanWalk, IsEntryAddress, walk_of};
 ghost use Rattle.dt_translate.specs.Outcomes.{entry_at};
@@ -29,8 +30,8 @@ impl PteReader for Tables<'_> {
 fn entry(moments: &Moments, k: u32, addr: u64) -> u64
     requires within { k ≤ length moments.now.writes }
     requires aligned { addr % 8 ≡ 0 }
-    requires in_ram { 0x8000_0000 ≤ addr }
-    requires before_end { addr < 0x8400_0000 }
+    requires in_ram { RAM_START ≤ addr }
+    requires before_end { addr < RAM_END }
     ensures { result ≡ entry_at moments.now.image moments.now.writes k addr }
 {
     moments.word(k, addr)

@@ -2,6 +2,7 @@ use Rattle.std.specs.Prelude.{ℕ, ◌≡◌, ◌+◌, ◌-◌, ◌/◌, ◌%◌
 use Rattle.std.specs.List.{list_all}
 use Rattle.std.specs.List.Sorted.{IsNonDecreasing}
 use Rattle.std.specs.Option.{IsSomeAnd, option_map_or, unwrap_or}
+use Rattle.dt_record.specs.declared.limits.TheConstants.{RAM_START}
 use Rattle.dt_record.specs.declared.writes.Write.{Write}
 use Rattle.dt_record.specs.Memory.{covers}
 
@@ -11,7 +12,7 @@ use Rattle.dt_record.specs.Memory.{covers}
 
 -- the place of an address's line among the lines of RAM
 abbrev pub line_place : ℕ → ℕ
-line_place addr = (addr - 0x8000_0000) / 64
+line_place addr = (addr - RAM_START) / 64
 
 -- the numbers of the writes to the line at a place; no list, and an empty one, are the same
 abbrev pub chain_of : {Z : Type 0} → List (Vec ℕ Z) → ℕ → List ℕ
@@ -41,7 +42,7 @@ pub record IsLastCover (writes : List Write) (k addr n : ℕ) : Type 0 where
 
 -- the row of the newest write to a line names, at each moment, the last write that covers each byte
 pub record IsChained (writes : List Write) (rows : List (List ℕ)) (chains : ℕ → List ℕ) : Type 0 where
-  pub exact : (addr k : ℕ) → 0x8000_0000 ≤ addr → k ≤ length writes
+  pub exact : (addr k : ℕ) → RAM_START ≤ addr → k ≤ length writes
       → IsLastCover writes k addr (number_at rows (newest_until (chains (line_place addr)) k) (addr % 64))
   pub rising : (place : ℕ) → IsNonDecreasing (chains place)
   pub bounded : (place : ℕ) → IsTrue (list_all (λ m. nat_le m (length writes)) (chains place))

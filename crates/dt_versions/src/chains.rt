@@ -2,6 +2,7 @@ ghost use Rattle.std.specs.Prelude.{ℕ, ◌≡◌, ◌==◌, ◌+◌, ◌-◌, 
 ghost use Rattle.std.specs.List.Sorted.{IsNonDecreasing, IsPartitionPoint};
 ghost use Rattle.std.specs.Option.{option_copied};
 ghost use Rattle.std.specs.Int.{bit_at};
+ghost use Rattle.dt_record.specs.declared.limits.TheConstants.{RAM_START, WRITE_LIMIT};
 ghost use Rattle.dt_versions.specs.Chains.{HasRoom, chain_of, line_place, newest_until, number_at, numbered};
 
 use dt_record::{RAM_START, Write};
@@ -12,7 +13,7 @@ pub type Row = [u32; 64];
 
 /// The place of the address's line among the lines of RAM.
 pub fn line_place(addr: u64) -> usize
-    requires { 0x8000_0000 ≤ addr }
+    requires { RAM_START ≤ addr }
     ensures { result ≡ line_place addr }
 {
     ((addr - RAM_START) / 64) as usize
@@ -147,7 +148,7 @@ fn chosen(mask: u64, place: usize, number: u32, before: u32) -> u32
 
 /// Makes room for one more number in the chain at a place. The chains stay as they are.
 pub fn make_room(lines: &mut Vec<Vec<u32>>, place: usize) -> Result<(), AllocError>
-    requires { place < 1048576 }
+    requires { place < WRITE_LIMIT }
     ensures same { (other : ℕ) → chain_of lines.new.items other ≡ chain_of lines.old.items other }
     ensures room { OnOk result (HasRoom lines.new.items place) }
 {
@@ -157,7 +158,7 @@ pub fn make_room(lines: &mut Vec<Vec<u32>>, place: usize) -> Result<(), AllocErr
 
 /// Adds empty chains until there is one at the place.
 fn grow(lines: &mut Vec<Vec<u32>>, place: usize) -> Result<(), AllocError>
-    requires { place < 1048576 }
+    requires { place < WRITE_LIMIT }
     ensures same { (other : ℕ) → chain_of lines.new.items other ≡ chain_of lines.old.items other }
     ensures there { OnOk result (place < vec_len lines.new) }
 {

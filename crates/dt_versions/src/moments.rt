@@ -1,5 +1,6 @@
 ghost use Rattle.std.specs.Prelude.{◌≡◌, ℕ, ◌-◌, ◌%◌, ◌++◌, ◌∷◌, [], ◌<◌, ◌≤◌, ◌↔◌, length, IsTrue, OnOk, OnErr, IfSome, IfNone};
 ghost use Rattle.std.specs.List.{list_all};
+ghost use Rattle.dt_record.specs.declared.limits.TheConstants.{RAM_END, RAM_START};
 ghost use Rattle.dt_record.specs.Keys.{key_below};
 ghost use Rattle.dt_record.specs.Memory.{memory_at, source_at, moment_of, is_touched};
 ghost use Rattle.dt_versions.specs.History.{history, are_in_order, IsKept, CanAdd};
@@ -107,8 +108,8 @@ impl Moments {
     /// The byte at an address of RAM after the first k writes.
     pub fn byte(&self, k: u32, addr: u64) -> u8
         requires within { k ≤ length self.now.writes }
-        requires in_ram { 0x8000_0000 ≤ addr }
-        requires before_end { addr < 0x8400_0000 }
+        requires in_ram { RAM_START ≤ addr }
+        requires before_end { addr < RAM_END }
         ensures { result ≡ memory_at self.now.image self.now.writes k addr }
     {
         match last_cover(&self.writes, &self.rows, &self.lines, k, addr) {
@@ -121,8 +122,8 @@ impl Moments {
     /// the image's.
     pub fn source(&self, k: u32, addr: u64) -> Option<Key>
         requires within { k ≤ length self.now.writes }
-        requires in_ram { 0x8000_0000 ≤ addr }
-        requires before_end { addr < 0x8400_0000 }
+        requires in_ram { RAM_START ≤ addr }
+        requires before_end { addr < RAM_END }
         ensures { result ≡ source_at self.now.writes k addr }
     {
         last_cover(&self.writes, &self.rows, &self.lines, k, addr).map(|w| w.key)
@@ -132,8 +133,8 @@ impl Moments {
     pub fn word(&self, k: u32, addr: u64) -> u64
         requires within { k ≤ length self.now.writes }
         requires aligned { addr % 8 ≡ 0 }
-        requires in_ram { 0x8000_0000 ≤ addr }
-        requires before_end { addr < 0x8400_0000 }
+        requires in_ram { RAM_START ≤ addr }
+        requires before_end { addr < RAM_END }
         ensures { result ≡ double_at self.now.image self.now.writes k addr }
     {
         word_at(&self.base, &self.writes, &self.rows, &self.lines, k, addr)
@@ -143,8 +144,8 @@ impl Moments {
     /// changes its source.
     pub fn steady_from(&self, k: u32, addr: u64) -> u32
         requires within { k ≤ length self.now.writes }
-        requires in_ram { 0x8000_0000 ≤ addr }
-        requires before_end { addr < 0x8400_0000 }
+        requires in_ram { RAM_START ≤ addr }
+        requires before_end { addr < RAM_END }
         ensures within { result ≤ k }
         ensures steady { IsSteady self.now.writes addr result k }
         ensures least { 0 < result → IsChange self.now.writes addr result }
@@ -157,8 +158,8 @@ impl Moments {
     /// its source.
     pub fn next_change(&self, k: u32, addr: u64) -> Option<u32>
         requires within { k ≤ length self.now.writes }
-        requires in_ram { 0x8000_0000 ≤ addr }
-        requires before_end { addr < 0x8400_0000 }
+        requires in_ram { RAM_START ≤ addr }
+        requires before_end { addr < RAM_END }
         ensures above { IfSome result (λ n. k < n) }
         ensures reached { IfSome result (λ n. n ≤ length self.now.writes) }
         ensures steady { IfSome result (λ n. IsSteady self.now.writes addr k (n - 1)) }

@@ -1,5 +1,6 @@
 ghost use Rattle.std.specs.Prelude.{◌≡◌, ◌≤◌, length};
 ghost use Rattle.std.specs.Option.{option_copied};
+ghost use Rattle.dt_record.specs.declared.limits.TheConstants.{RAM_START};
 ghost use Rattle.dt_record.specs.Memory.{last_covering};
 ghost use Rattle.dt_versions.specs.Chains.{IsChained, chain_of};
 
@@ -16,7 +17,7 @@ pub fn last_cover<'a>(
 ) -> Option<&'a Write>
     requires chained { IsChained writes.now rows.now (chain_of lines.now) }
     requires within { k ≤ length writes.now }
-    requires in_ram { 0x8000_0000 ≤ addr }
+    requires in_ram { RAM_START ≤ addr }
     ensures { option_copied result ≡ last_covering writes.now k addr }
 {
     let newest = newest_at(lines, line_place(addr), k);

@@ -1,6 +1,7 @@
 ghost use Rattle.std.specs.Prelude.{◌≡◌, ℕ, ◌+◌, ◌*◌, ◌/◌, ◌%◌, ◌<◌, ◌≤◌, true, false, length, slice_index, slice_index_or};
 ghost use Rattle.std.specs.List.Sorted.{IsPartitionPoint, IsPartitionedBy};
 ghost use Rattle.std.specs.Option.{option_map_or};
+ghost use Rattle.dt_record.specs.declared.limits.TheConstants.{RAM_END, RAM_START};
 ghost use Rattle.dt_record.specs.Image.{image_byte};
 ghost use Rattle.dt_versions.specs.Chains.{IsChained, chain_of, is_unchanged, number_at, numbered};
 ghost use Rattle.dt_versions.specs.Words.{double_at};
@@ -95,8 +96,8 @@ pub fn word_at(
     requires chained { IsChained writes.now rows.now (chain_of lines.now) }
     requires within { k ≤ length writes.now }
     requires aligned { addr % 8 ≡ 0 }
-    requires in_ram { 0x8000_0000 ≤ addr }
-    requires before_end { addr < 0x8400_0000 }
+    requires in_ram { RAM_START ≤ addr }
+    requires before_end { addr < RAM_END }
     ensures { result ≡ double_at base.now writes.now k addr }
 {
     let newest = newest_at(lines, line_place(addr), k);
@@ -114,8 +115,8 @@ pub fn word_at(
 
 /// The byte at an address, where its line was last written by the write with this number.
 fn byte_after(base: &Image, writes: &[Write], rows: &[Row], newest: u32, addr: u64) -> u8
-    requires in_ram { 0x8000_0000 ≤ addr }
-    requires before_end { addr < 0x8400_0000 }
+    requires in_ram { RAM_START ≤ addr }
+    requires before_end { addr < RAM_END }
     ensures { result ≡ option_map_or (λ w. slice_index w.bytes (addr % 64))
         (numbered writes.now (number_at rows.now newest (addr % 64))) (image_byte base.now addr) }
 {
