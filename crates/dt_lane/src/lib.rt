@@ -4,6 +4,8 @@
 
 mod ends;
 mod lanes;
+#[cfg(test)]
+mod tests;
 
 pub use ends::HartEnd;
 pub use lanes::Lane;
