@@ -1,4 +1,4 @@
-use Rattle.std.specs.Prelude.{ℕ, ◌≡◌, ◌+◌, ◌/◌, ◌%◌, ◌^◌, ◌<◌, ◌≤◌, ◌&&◌, Bool, true, Option, None, Some, List, [], ◌∷◌, length, map, nat_lt, unwrap_or, if◌then◌else◌, option_map, IsTrue, All}
+use Rattle.std.specs.Prelude.{ℕ, ◌≡◌, ◌+◌, ◌/◌, ◌%◌, ◌^◌, ◌<◌, ◌≤◌, ◌&&◌, Bool, true, Option, None, Some, List, [], ◌∷◌, length, map, nat_lt, unwrap_or, if◌then◌else◌, option_map, option_to_list, IsTrue, All}
 use Rattle.std.specs.BTreeMap.{is_at}
 use Rattle.std.specs.List.{filter_map, list_all}
 use Rattle.std.specs.List.Sorted.{IsStrictlySortedBy}
@@ -71,6 +71,10 @@ pub record IsWithin (wide : Bool) (d : HartState) : Type 0 where
   pub all_pages : d.all_pages ≤ d.seq
   pub pages : All (λ p. (d.all_pages < p.seq) × (p.seq ≤ d.seq)) d.pages
   pub listed : AreListed d
+
+-- an entry, where it has a value
+abbrev pub kept_value : {B : Type 0} → ℕ → Option B → List (ℕ × B)
+kept_value n value = option_to_list (option_map (λ b. (n, b)) value)
 
 -- the entries whose value a function gives another one, with that
 abbrev pub kept_values : {A B : Type 0} → (A → Option B) → List (ℕ × A) → List (ℕ × B)

@@ -13,8 +13,8 @@ pub fn local_of(alloc: Global, known: &[KnownByte]) -> Result<Local, AllocError>
     ensures { IfOk result (λ local. (byte : ℕ) → newest_of local byte ≡ lookup (λ a. a == byte) (map pair_of known.now)) }
 {
     let mut local = Local::new(alloc);
-    for byte in known {
-        note_read(&mut local, byte.addr, &[Origin::Write(byte.key)])?;
+    for entry in known {
+        note_read(&mut local, entry.addr, &[Origin::Write(entry.key)])?;
     }
     Ok(local)
 }

@@ -1,6 +1,5 @@
-ghost use Rattle.std.specs.Prelude.{◌≡◌, ◌≤◌, length, map, IfOk};
-ghost use Rattle.dt_windows.specs.Kept.{ArePages};
-ghost use Rattle.dt_hart.specs.HartData.{is_later, kept_values, number_within, own_number, page_pair};
+ghost use Rattle.std.specs.Prelude.{◌≡◌, ◌≤◌, ◌++◌, length, map, IfOk, OnOk};
+ghost use Rattle.dt_hart.specs.HartData.{is_later, kept_value, kept_values, number_within, own_number, page_pair};
 ghost use Rattle.dt_hart.specs.Replaying.{numbered_key};
 
 use dt_record::{Key, PageMark, Pages, Record, key_of};
@@ -48,11 +47,18 @@ pub fn marks_of(
 {
     let mut marks = Vec::new(alloc);
     for (page, key) in pages {
-        if let Some(seq) = own_number(count, all, *key) {
-            marks.push(PageMark { page: *page, seq })?;
-        }
+        push_mark(&mut marks, *page, own_number(count, all, *key))?;
     }
     Ok(Pages::of(marks))
+}
+
+fn push_mark(marks: &mut Vec<PageMark>, page: u64, number: Option<u32>) -> Result<(), AllocError>
+    ensures { OnOk result (map page_pair marks.new.items ≡ map page_pair marks.old.items ++ kept_value page number) }
+{
+    if let Some(seq) = number {
+        marks.push(PageMark { page, seq })?;
+    }
+    Ok(())
 }
 
 /// The key of the record with this number, counted from 1.
@@ -76,9 +82,16 @@ pub fn own_fences(
 {
     let mut pages = Vec::new(alloc);
     for mark in marks {
-        if let Some(key) = numbered_key(before, mark.seq) {
-            pages.push((mark.page, key))?;
-        }
+        push_page(&mut pages, mark.page, numbered_key(before, mark.seq))?;
     }
     Ok(pages)
+}
+
+fn push_page(pages: &mut Vec<(u64, Key)>, page: u64, fence: Option<Key>) -> Result<(), AllocError>
+    ensures { OnOk result (pages.new.items ≡ pages.old.items ++ kept_value page fence) }
+{
+    if let Some(key) = fence {
+        pages.push((page, key))?;
+    }
+    Ok(())
 }

@@ -1,4 +1,4 @@
-ghost use Rattle.std.specs.Prelude.{◌≡◌, ◌<◌, ◌≤◌, length, IsTrue, IfOk, OnOk};
+ghost use Rattle.std.specs.Prelude.{◌≡◌, ◌<◌, ◌≤◌, [], Some, length, if◌then◌else◌, IsTrue, IfOk, OnOk};
 ghost use Rattle.std.specs.List.{list_all};
 ghost use Rattle.dt_record.specs.declared.limits.TheConstants.{RECORD_LIMIT};
 ghost use Rattle.dt_record.specs.Keys.{key_of};
@@ -17,7 +17,7 @@ use crate::places::is_placed;
 use dt_decode::Instr;
 use dt_local::Local;
 use dt_record::{Body, Key, Origin, Record, Sources, key_of};
-use dt_reference::meaning;
+use dt_reference::{actions_go_on, meaning};
 use dt_step::{Arch, Planned};
 use dt_stores::{Stores, drains_stay_below};
 use std::alloc::{AllocError, Global};
@@ -49,6 +49,7 @@ pub fn replay(alloc: Global, a: &Arch, before: &[Record]) -> Result<Replayed, Al
     requires room { length before.now ≤ RECORD_LIMIT }
     ensures { IfOk result (λ v. IsReplayed a.now.hart v before.now) }
 {
+    actions_go_on();
     let mut replayed = Replayed::new(alloc, a);
     for event in before {
         replayed.take(a, event)?;

@@ -2,7 +2,9 @@ ghost use Rattle.std.specs.Prelude.{OnOk};
 ghost use Rattle.dt_hart.specs.Marks.{KeepsMarks};
 
 use crate::{Hart, is_placed, known_at_next, marks_go_on};
-use dt_record::{Body, Key, KnownByte, Origin, PageMark, RECORD_LIMIT, Record, Retire, Sources, lawful};
+use dt_record::{
+    Body, Key, KnownByte, Origin, PageMark, RECORD_LIMIT, Record, Retire, Sources, lawful,
+};
 use dt_reference::can_follow;
 use std::process::Abort;
 use std::test::Fail;
@@ -275,7 +277,13 @@ fn data_of_a_hart(rt: HostRuntime) -> Result<(), Fail> {
     };
     assert_eq!(rt; d.pages.items(), [page].as_slice());
     assert_eq!(rt; d.known.items().len(), 8);
-    assert_eq!(rt; d.known.items()[7], KnownByte { addr: LINE + 7, key: read });
+    assert_eq!(rt;
+        d.known.items()[7],
+        KnownByte {
+            addr: LINE + 7,
+            key: read
+        }
+    );
     Ok(())
 }
 
@@ -298,7 +306,13 @@ fn a_hart_of_its_data(rt: HostRuntime) -> Result<(), Fail> {
         own(7, atomic(0x1405_35af, 7, false, 0)),
     ];
     for event in &events {
-        take(&rt, &mut hart, event.stamp, event.body, everywhere(Origin::Image))?;
+        take(
+            &rt,
+            &mut hart,
+            event.stamp,
+            event.body,
+            everywhere(Origin::Image),
+        )?;
     }
     let d = hart.state(rt.alloc())?;
     assert!(rt; d.seq == 6 && events.iter().all(lawful));
