@@ -5,7 +5,7 @@ use Rattle.std.specs.Ordering.{nat_cmp}
 use Rattle.std.specs.Map.{lookup, keys_of}
 use Rattle.std.specs.Option.{option_and_then, unwrap_or}
 use Rattle.std.specs.Prelude.{if◌then◌else◌}
-use Rattle.std.proofs.lemmas.Bool.{cases_Bool, and_parts, lt-ltb, ltb-true}
+use Rattle.std.proofs.lemmas.Bool.{cases_Bool, and_from, and_parts, lt-ltb, ltb-true}
 use Rattle.std.proofs.lemmas.Bool.Decides.{nat_tests}
 use Rattle.std.proofs.lemmas.List.Elements.{All-nil, All-cons, All-head, All-tail, All-same, All-weaker}
 use Rattle.std.proofs.lemmas.Option.{same_Some}
@@ -83,7 +83,8 @@ kept_number : (count : ℕ) (all : Option Key) (k : Key) → is_later k all ≡ 
     → given count all (Some k) ≡ number_within count (Some k)
 kept_number count all k later above =
     ap (λ (b : Bool). unwrap_or (if b then Some (number_within count (Some k)) else None) (number_within count all))
-    (rw later (lt-ltb (number_within count all) (number_within count (Some k)) above))
+    (and_from (is_later k all) (nat_lt (number_within count all) (number_within count (Some k))) later
+    (lt-ltb (number_within count all) (number_within count (Some k)) above))
 
 dropped_number : (count : ℕ) (all : Option Key) (k : Key) → is_later k all ≡ false → given count all (Some k) ≡ number_within count all
 dropped_number count all k later =
@@ -105,7 +106,7 @@ later_number s va all k is own later =
     (last_no_earlier (covers_page va) covers_all (all_covers va) (start_of s.hart s.wide) 0 s.before)))
   where
     by_all : (o : Option Key) → is_later k o ≡ true → IsNoEarlier (Some k) o → number_within (length s.before) o < number_within (length s.before) (Some k)
-    by_all None above no = omega (arith, number_if (length s.before) k (last_within s (covers_page va) k (sym own)))
+    by_all None above _ = omega (arith, number_if (length s.before) k (last_within s (covers_page va) k (sym own)))
     by_all (Some l) above (inl same) = absurd (not_itself k (subst (λ (q : Key). key_below q k ≡ true) same above))
     by_all (Some l) above (inr less) =
         let within = last_within s (covers_page va) k (sym own) in
@@ -225,3 +226,8 @@ within_of h d is arch reachable few = record {
   pages = numbered h d is;
   listed = listed h d is;
 }
+
+pub within_view : (h v : HartView) (d : HartState) → h ≡ v → IsStateOf h d → IsArch h.arch → IsReachable h.arch → v.seq ≤ 4194304 → IsWithin v.arch.csrs.wide d
+within_view h v d same is arch reachable few =
+    subst (λ (w : HartView). IsWithin w.arch.csrs.wide d) same
+    (within_of h d is arch reachable (omega (arith, ap (λ (w : HartView). w.seq) same, few)))

@@ -70,17 +70,19 @@ own_is test key k (Some p) is = by_test (test p) is
 
 one_of : (test : Planned → Bool) (a : Arch) (n : ℕ) (rs : List Record) (k : Key) → last_from test a n rs ≡ Some k → IsKeyAt n rs k
 one_of test a n [] k is = absurd (cc is)
-one_of test a n (r ∷ rs) k is = by_later (last_from test (after_record a r) (n + 1) rs) refl is
+one_of test a n (r ∷ rs) k is =
+    by_later (last_from test (after_record a r) (n + 1) rs) refl (one_of test (after_record a r) (n + 1) rs k) is
   where
-    by_later : (o : Option Key) → last_from test (after_record a r) (n + 1) rs ≡ o → option_or o (own_key test (key_of n r) (fence_in a r.body)) ≡ Some k → IsKeyAt n (r ∷ rs) k
-    by_later None here found = record {
+    by_later : (o : Option Key) → last_from test (after_record a r) (n + 1) rs ≡ o → (last_from test (after_record a r) (n + 1) rs ≡ Some k → IsKeyAt (n + 1) rs k)
+        → option_or o (own_key test (key_of n r) (fence_in a r.body)) ≡ Some k → IsKeyAt n (r ∷ rs) k
+    by_later None here further found = record {
       place = 0;
       own = r;
       there = refl;
       is = own_is test (key_of n r) k (fence_in a r.body) found ∙ ap (λ m. key_of m r) (omega arith);
     }
-    by_later (Some l) here found =
-        let later = one_of test (after_record a r) (n + 1) rs k (here ∙ found) in
+    by_later (Some l) here further found =
+        let later = further (here ∙ found) in
         record {
           place = suc later.place;
           own = later.own;

@@ -3,7 +3,7 @@ use Rattle.dt_record.specs.declared.keys.Key.{Key}
 use Rattle.dt_hart.specs.HartData.{IsWithin, HasArch, kept_values, number_within, own_number}
 use Rattle.dt_hart.specs.HartView.{HartView}
 use Rattle.dt_hart.specs.Standing.{HartStands}
-use Rattle.dt_hart.proofs.DataOf.{IsStateOf, data_of, within_of}
+use Rattle.dt_hart.proofs.DataOf.{IsStateOf, data_of, within_view}
 use Rattle.dt_hart.proofs.GoingOn.{kept}
 use Rattle.dt_hart.proofs.harts.Hart.state.Goals as goal
 
@@ -29,8 +29,7 @@ pub returns-clause-within : goal.returns-clause-within
 returns-clause-within c =
     let h = c.self.inside in
     let own = c.self.inside.windows in
-    subst (λ (v : HartView). v.seq ≤ 4194304 → IsWithin v.arch.csrs.wide _) c.self.view_is
-    (within_of (kept h.arch h.seq h.stamp h.accesses h.reserved h.windows) _
+    within_view (kept h.arch h.seq h.stamp h.accesses h.reserved h.windows) c.args.self.now _ c.self.view_is
     (record {
       seq = refl;
       arch = record { pc = refl; x = c.named_registers.ensures 0 c.self.invariant.0.zero; mode = refl; v = c.values.ensures; floors = refl };
@@ -42,4 +41,4 @@ returns-clause-within c =
       are_pages = c.in_ok-fenced.ensures.in_order;
       are_known = c.in_ok-pairs.ensures.in_order;
     })
-    c.self.invariant.0 c.self.invariant.1)
+    c.self.invariant.0 c.self.invariant.1
