@@ -23,7 +23,7 @@ use Rattle.dt_hart.proofs.Earlier.{is_its}
 
 -- The reservation and the fences after one more record.
 
-reserved_from-snoc : (seq : ℕ) (old : Option (ℕ × Key)) (records : List Record) (r : Record)
+pub reserved_from-snoc : (seq : ℕ) (old : Option (ℕ × Key)) (records : List Record) (r : Record)
     → reserved_from seq old (records ++ r ∷ []) ≡ reserved_by (key_of (seq + length records) r) r.body (reserved_from seq old records)
 reserved_from-snoc seq old [] r = ap (λ n. reserved_by (key_of n r) r.body old) (omega arith)
 reserved_from-snoc seq old (x ∷ xs) r =
@@ -34,7 +34,7 @@ pub reserved_after : (s : Setting) (r : Record) → reserved_in (s.before ++ r �
 reserved_after s r =
     reserved_from-snoc 0 _ s.before r ∙ ap (λ n. reserved_by (key_of n r) r.body (reserved_in s.before)) (omega arith)
 
-fences_from-snoc : (a : Arch) (seq : ℕ) (records : List Record) (r : Record)
+pub fences_from-snoc : (a : Arch) (seq : ℕ) (records : List Record) (r : Record)
     → fences_from a seq (records ++ r ∷ []) ≡ fences_from a seq records ++ option_to_list (fence_by (state_from a records) (seq + length records) r)
 fences_from-snoc a seq [] r = append-nil (option_to_list (fence_by a seq r)) ∙ ap (λ n. option_to_list (fence_by a n r)) (omega arith)
 fences_from-snoc a seq (x ∷ xs) r =

@@ -1,9 +1,12 @@
 pub mod Counting
 pub mod Fences
 pub mod Following
+pub mod Fronts
+pub mod HartData
 pub mod HartView
 pub mod Marks
 pub mod OwnWrites
+pub mod Replaying
 pub mod Reserving
 pub mod Settings
 pub mod Standing

@@ -64,7 +64,7 @@ pub fn take_effects(
 }
 
 /// The plan of the fence that the record retires, if it retires one.
-fn ordering_plan(a: &Arch, event: &Record) -> Option<Planned>
+pub fn ordering_plan(a: &Arch, event: &Record) -> Option<Planned>
     requires arch { IsArch a.now }
     requires lawful { IsLawful event.now }
     ensures { result ≡ ordering_in a.now event.now.body }

@@ -8,10 +8,14 @@ mod atomics;
 mod effects;
 mod found;
 mod harts;
+mod known;
 mod laws;
 mod marks;
 mod notes;
+mod pages;
 mod places;
+mod replays;
+mod states;
 #[cfg(test)]
 mod tests;
 
