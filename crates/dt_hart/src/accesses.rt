@@ -35,6 +35,16 @@ pub struct Accesses {
     pub last_read: u64,
 }
 
+/// What an atomic accesses, and how.
+#[derive(Clone, Copy, Debug)]
+struct AtomicAccess {
+    order: AtomicOrder,
+    /// The write that it made, if any.
+    own: Option<Write>,
+    addr: u64,
+    width: u8,
+}
+
 impl Accesses {
     /// Takes what the record with this number does, which is no fence. The sources are those of a
     /// load from RAM, or of an LR or AMO.
@@ -76,9 +86,13 @@ impl Accesses {
                 wrote,
                 ..
             } => {
-                let order = order_of(retire.bits, wrote);
-                let own = write_of(event, seq);
-                self.take_atomic(stamp, order, own, paddr, width, sources)
+                let atomic = AtomicAccess {
+                    order: order_of(retire.bits, wrote),
+                    own: write_of(event, seq),
+                    addr: paddr,
+                    width,
+                };
+                self.take_atomic(stamp, atomic, sources)
             }
             Body::Drain {
                 line,
@@ -125,26 +139,30 @@ impl Accesses {
         Ok(())
     }
 
-    /// An atomic in a cycle, which made this write or none.
+    /// An atomic in a cycle.
     fn take_atomic(
         &mut self,
         stamp: u64,
-        order: AtomicOrder,
-        own: Option<Write>,
-        addr: u64,
-        width: u8,
+        atomic: AtomicAccess,
         sources: Sources,
     ) -> Result<(), AllocError>
-        requires place { IsTrue (is_atomic_place addr width) }
-        requires line { IfSome own (λ w. IsTrue (is_ram_line w.line)) }
+        requires place { IsTrue (is_atomic_place atomic.addr atomic.width) }
+        requires line { IfSome atomic.own (λ w. IsTrue (is_ram_line w.line)) }
         ensures stores { self.new.stores ≡ self.old.stores }
         ensures noted { OnOk result ((byte : ℕ) → newest_of self.new.local byte ≡ greater (newest_of self.old.local byte)
-            (option_map_or (covering_key byte) own (if order.reads then read_key addr (take width sources.from) byte else None))) }
-        ensures floor { OnOk result (self.new.floor ≡ max self.old.floor (if order.acquires then stamp else 0)) }
-        ensures last_read { OnOk result (self.new.last_read ≡ max self.old.last_read (if order.reads then stamp else 0)) }
+            (option_map_or (covering_key byte) atomic.own
+            (if atomic.order.reads then read_key atomic.addr (take atomic.width sources.from) byte else None))) }
+        ensures floor { OnOk result (self.new.floor ≡ max self.old.floor (if atomic.order.acquires then stamp else 0)) }
+        ensures last_read { OnOk result (self.new.last_read ≡ max self.old.last_read (if atomic.order.reads then stamp else 0)) }
         ensures marks { OnOk result (KeepsAccessMarks self.old self.new) }
         ensures unchanged { OnErr result (KeepsAccesses self.old self.new) }
     {
+        let AtomicAccess {
+            order,
+            own,
+            addr,
+            width,
+        } = atomic;
         let from = &sources.from[..usize::from(width)];
         note_atomic(&mut self.local, own, order.reads, addr, from)?;
         self.floor = raised(self.floor, order.acquires, stamp);

@@ -12,6 +12,15 @@ use crate::{Answer, Arch, Planned};
 use dt_csr::{CsrRead, Csrs, mret, read, sret, write};
 use dt_decode::CsrOp;
 
+/// What a CSR instruction does to the register with this number: `op` with `operand` where it writes.
+#[derive(Clone, Copy, Debug)]
+struct CsrAccess {
+    number: u16,
+    op: CsrOp,
+    operand: u64,
+    writes: bool,
+}
+
 /// Finishes a plan that `plan` gave for this state and that raises nothing, with the answer that it
 /// asks for. `len` is the length of the instruction in bytes.
 pub fn finish(a: &mut Arch, len: u8, p: Planned, answer: Answer)
@@ -43,7 +52,13 @@ pub fn finish(a: &mut Arch, len: u8, p: Planned, answer: Answer)
             ..
         } => {
             let value = value_in(answer);
-            access_csr(a, number, op, operand, writes, rd, value);
+            let access = CsrAccess {
+                number,
+                op,
+                operand,
+                writes,
+            };
+            access_csr(a, access, rd, value);
             set_register(a, rd, value);
             go_further(a, len);
         }
@@ -107,12 +122,20 @@ fn return_by_sret(a: &mut Arch)
     a.pc = pc;
 }
 
-/// Reads and writes a register of control and status, where the read gave this value.
-fn access_csr(a: &mut Arch, number: u16, op: CsrOp, operand: u64, writes: bool, rd: u8, value: u64)
-    ensures state { a.new ≡ record a.old { csrs = csrs_after a.old number op operand writes rd value } }
+/// Reads and writes a register of control and status, where the read into `rd` gave this value.
+fn access_csr(a: &mut Arch, access: CsrAccess, rd: u8, value: u64)
+    ensures state { a.new ≡ record a.old {
+      csrs = csrs_after a.old access.number access.op access.operand access.writes rd value;
+    } }
     ensures mpp { NamesMode a.old.csrs.mstatus → NamesMode a.new.csrs.mstatus }
     ensures keeps { AreKeptInBounds a.old.csrs → AreKeptInBounds a.new.csrs }
 {
+    let CsrAccess {
+        number,
+        op,
+        operand,
+        writes,
+    } = access;
     let mode = a.mode;
     let shown = read(&a.csrs, mode, a.hart, number);
     let written = value_to_write(&a.csrs, shown, op, rd, value, operand);

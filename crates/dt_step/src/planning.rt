@@ -13,6 +13,13 @@ use dt_alu::{alu, compare, extend};
 use dt_csr::expected_tval;
 use dt_decode::Instr;
 
+/// The bits of an atomic instruction that order its accesses: acquire and release.
+#[derive(Clone, Copy, Debug)]
+struct Ordering {
+    aq: bool,
+    rl: bool,
+}
+
 /// What an instruction asks for. `bits` is the instruction as fetched, with an upper half of zero
 /// where it has 16 bits.
 pub fn plan(a: &Arch, i: Instr, bits: u32) -> Planned
@@ -128,7 +135,10 @@ fn atomic_plan(a: &Arch, i: Instr, bits: u32) -> Planned
             rl,
             rd,
             rs1,
-        } => { atomic(value_of(a, rs1), width, AtomicOp::Lr, aq, rl, rd, 0) }
+        } => {
+            let order = Ordering { aq, rl };
+            atomic(value_of(a, rs1), width, AtomicOp::Lr, order, rd, 0)
+        }
         Instr::Sc {
             width,
             aq,
@@ -137,8 +147,9 @@ fn atomic_plan(a: &Arch, i: Instr, bits: u32) -> Planned
             rs1,
             rs2,
         } => {
+            let order = Ordering { aq, rl };
             let operand = low_bytes(width, value_of(a, rs2));
-            atomic(value_of(a, rs1), width, AtomicOp::Sc, aq, rl, rd, operand)
+            atomic(value_of(a, rs1), width, AtomicOp::Sc, order, rd, operand)
         }
         Instr::Amo {
             op,
@@ -149,9 +160,16 @@ fn atomic_plan(a: &Arch, i: Instr, bits: u32) -> Planned
             rs1,
             rs2,
         } => {
-            let amo = AtomicOp::Amo(op);
+            let order = Ordering { aq, rl };
             let operand = low_bytes(width, value_of(a, rs2));
-            atomic(value_of(a, rs1), width, amo, aq, rl, rd, operand)
+            atomic(
+                value_of(a, rs1),
+                width,
+                AtomicOp::Amo(op),
+                order,
+                rd,
+                operand,
+            )
         }
         _ => system_plan(a, i, bits),
     }
@@ -199,9 +217,10 @@ fn done(rd: u8, value: u64, next: u64) -> Planned
     Planned::Done { rd, value, next }
 }
 
-fn atomic(va: u64, width: u8, op: AtomicOp, aq: bool, rl: bool, rd: u8, operand: u64) -> Planned
-    ensures { result ≡ Planned.NeedsAtomic va width op aq rl rd operand }
+fn atomic(va: u64, width: u8, op: AtomicOp, order: Ordering, rd: u8, operand: u64) -> Planned
+    ensures { result ≡ Planned.NeedsAtomic va width op order.aq order.rl rd operand }
 {
+    let Ordering { aq, rl } = order;
     Planned::NeedsAtomic {
         va,
         width,

@@ -12,7 +12,7 @@ returns-in-Load-clause-follows c =
 pub returns-in-Atomic-clause-follows : goal.returns-in-Atomic-clause-follows
 returns-in-Atomic-clause-follows c =
     atomic_follows c.take_atomic.result c.args.self.now c.take_atomic.new.self (key_of c.args.seq c.args.event.now) c.args.event.now.body c.args.sources c.in-Atomic.retire c.in-Atomic.paddr c.in-Atomic.width c.in-Atomic.wrote c.in-Atomic.new
-    c.order_of-order.result.reads c.order_of-order.result.acquires c.write_of-own.result c.atomics_keep_stores.ensures c.in-Atomic.is c.order_of-order.ensures.reads c.order_of-order.ensures.acquires c.write_of-own.ensures
+    c.order_of.result.reads c.order_of.result.acquires c.write_of.result c.atomics_keep_stores.ensures c.in-Atomic.is c.order_of.ensures.reads c.order_of.ensures.acquires c.write_of.ensures
     c.take_atomic.ensures.stores c.take_atomic.ensures.noted c.take_atomic.ensures.floor c.take_atomic.ensures.last_read
 
 pub returns-in-Drain-clause-follows : goal.returns-in-Drain-clause-follows
