@@ -10,7 +10,7 @@ use Rattle.std.proofs.lemmas.List.Folds.{list_all-append}
 use Rattle.std.proofs.lemmas.Nat.{pow-add}
 use Rattle.std.proofs.lemmas.Nat.Bits.{bit_at_mask_inside}
 use Rattle.std.proofs.lemmas.Option.{same_Some}
-use Rattle.dt_judged.proofs.Covered.{width_has}
+use Rattle.dt_stores.proofs.Merging.{width_has}
 use Rattle.dt_lists.proofs.Lists.{list_all-reverse, found_passes}
 use Rattle.dt_record.specs.declared.keys.Key.{Key}
 use Rattle.dt_record.specs.declared.writes.Write.{Write}

@@ -1,7 +1,7 @@
-use Rattle.std.proofs.Common.{ℕ, ◌≡◌, ◌⊎◌, Bool, true, Some, List, [], ◌∷◌, ◌++◌, filter, take, drop, map, zero, suc, refl, sym, ap, ◌∙◌, inl, inr, arith}
+use Rattle.std.proofs.Common.{ℕ, ◌≡◌, ◌<◌, ◌⊎◌, Bool, true, Option, None, Some, option_map, List, [], ◌∷◌, ◌++◌, filter, length, take, zero, suc, refl, sym, ap, ◌∙◌, inl, inr, arith}
 use Rattle.std.specs.Prelude.{Contains}
-use Rattle.std.specs.List.{list_all, slice_get}
-use Rattle.std.proofs.lemmas.Bool.{cases_Bool, and_from}
+use Rattle.std.specs.List.{list_all, list_any, slice_get}
+use Rattle.std.proofs.lemmas.Bool.{cases_Bool, and_from, or_right}
 
 -- Elements by their places.
 
@@ -12,35 +12,38 @@ before_or_last [] y (suc i) x is = absurd (cc is)
 before_or_last (z ∷ xs) y zero x is = inl is
 before_or_last (z ∷ xs) y (suc i) x is = before_or_last xs y i x is
 
--- an element of a list whose front is mapped is one of the list, or one of the front that is mapped
-pub record IsMapped {X : Type 0} (f : X → X) (front : List X) (i : ℕ) (y : X) : Type 0 where
-  pub from : X
-  pub there : slice_get front i ≡ Some from
-  pub gives : f from ≡ y
-
-pub kept_or_mapped : {X : Type 0} (f : X → X) (n : ℕ) (xs : List X) (i : ℕ) (y : X) → slice_get (map f (take n xs) ++ drop n xs) i ≡ Some y
-    → (slice_get xs i ≡ Some y) ⊎ IsMapped f (take n xs) i y
-kept_or_mapped f zero xs i y is = inl is
-kept_or_mapped f (suc n) [] i y is = absurd (cc is)
-kept_or_mapped f (suc n) (x ∷ xs) zero y is = inr (record { from = x; there = refl; gives = cc is })
-kept_or_mapped {X} f (suc n) (x ∷ xs) (suc i) y is = elim (kept_or_mapped f n xs i y is) [
-  | inl there ↦ inl there
-  | inr mapped ↦ inr (record { from = mapped.from; there = mapped.there; gives = mapped.gives })
-]
-
--- an element that passes a test stands among those that do
-pub passing_place : {X : Type 0} (p : X → Bool) (xs : List X) (i : ℕ) (x : X) → slice_get xs i ≡ Some x → p x ≡ true → (j : ℕ) × (slice_get (filter p xs) j ≡ Some x)
+-- an element that passes a test stands among those that do, behind those before it
+pub passing_place : {X : Type 0} (p : X → Bool) (xs : List X) (i : ℕ) (x : X) → slice_get xs i ≡ Some x → p x ≡ true
+    → slice_get (filter p xs) (length (filter p (take i xs))) ≡ Some x
 passing_place p [] i x is passes = absurd (cc is)
 passing_place p (y ∷ ys) zero x is passes =
     let same : y ≡ x = cc is in
     let first : p y ≡ true = ap p same ∙ passes in
-    (0, rw first is)
+    rw first is
 passing_place p (y ∷ ys) (suc i) x is passes =
     let later = passing_place p ys i x is passes in
     elim (cases_Bool (p y)) [
-      | inl first ↦ (suc later.0, rw first later.1)
-      | inr not_first ↦ (later.0, rw not_first later.1)
+      | inl first ↦ rw first later
+      | inr not_first ↦ rw not_first later
     ]
+
+-- an element of the front of a list
+pub front_place : {X : Type 0} (n : ℕ) (xs : List X) (i : ℕ) (x : X) → i < n → slice_get xs i ≡ Some x → slice_get (take n xs) i ≡ Some x
+front_place zero xs i x within is = absurd (omega arith)
+front_place (suc n) [] i x within is = absurd (cc is)
+front_place (suc n) (y ∷ ys) zero x within is = is
+front_place (suc n) (y ∷ ys) (suc i) x within is = front_place n ys i x (omega arith) is
+
+-- what is mapped
+pub mapped_from : {X Y : Type 0} (f : X → Y) (o : Option X) (y : Y) → option_map f o ≡ Some y → (x : X) × (o ≡ Some x) × (f x ≡ y)
+mapped_from f None y is = absurd (cc is)
+mapped_from f (Some x) y is = (x, refl, cc is)
+
+-- an element that passes a test
+pub any_passes : {X : Type 0} (p : X → Bool) (xs : List X) (i : ℕ) (x : X) → slice_get xs i ≡ Some x → p x ≡ true → list_any p xs ≡ true
+any_passes p [] i x is passes = absurd (cc is)
+any_passes p (y ∷ ys) zero x is passes = let same : y ≡ x = cc is in let first : p y ≡ true = ap p same ∙ passes in rw first refl
+any_passes p (y ∷ ys) (suc i) x is passes = or_right (p y) (list_any p ys) (any_passes p ys i x is passes)
 
 -- and what stands there passes it
 passes_first : {X : Type 0} (p : X → Bool) (y : X) (rest : List X) (i : ℕ) (x : X) → p y ≡ true → slice_get (y ∷ rest) i ≡ Some x

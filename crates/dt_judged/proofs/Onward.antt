@@ -1,27 +1,23 @@
-use Rattle.std.proofs.Common.{ℕ, ◌≡◌, ◌%◌, ◌==◌, true, false, not, Some, None, List, [], ◌∷◌, ◌++◌, length, filter, take, drop, zero, suc, refl, sym, ap, ◌∙◌, subst, inl, inr, IsTrue, arith}
+use Rattle.std.proofs.Common.{ℕ, ◌≡◌, ◌%◌, ◌==◌, true, if◌then◌else◌, nat_lt, not, Some, None, List, [], ◌∷◌, ◌++◌, length, filter, take, zero, suc, refl, sym, ap, ◌∙◌, subst, inl, inr, IsTrue}
 use Rattle.std.specs.Prelude.{Contains}
 use Rattle.std.specs.Int.{bit_at}
 use Rattle.std.specs.List.{list_all, slice_get}
-use Rattle.std.proofs.Math.Seq.{take-append_seam}
-use Rattle.std.proofs.lemmas.Bool.{cases_Bool, and_parts, and_from, eq-eqb, ne_eqb}
-use Rattle.std.proofs.lemmas.Bool.Decides.{nat_tests}
-use Rattle.std.proofs.lemmas.List.{append-nil, take-append-drop}
-use Rattle.std.proofs.lemmas.List.Elements.{filter-append}
+use Rattle.std.proofs.lemmas.Bool.{cases_Bool, and_parts, and_from, eq-eqb, ltb-true, ne_eqb}
+use Rattle.std.proofs.lemmas.List.{append-nil}
 use Rattle.std.proofs.lemmas.List.Folds.{list_all-append}
 use Rattle.dt_record.proofs.KeyChains.{below-not_above}
-use Rattle.dt_lists.proofs.Lists.{slice_get-take}
 use Rattle.dt_record.specs.declared.keys.Key.{Key}
 use Rattle.dt_record.specs.declared.writes.Write.{Write}
 use Rattle.dt_record.specs.declared.accesses.OwnStore.{OwnStore}
-use Rattle.dt_record.specs.Keys.{key_below, KeyBelow}
+use Rattle.dt_record.specs.Keys.{KeyBelow}
 use Rattle.dt_record.specs.Memory.{line_of}
 use Rattle.dt_record.specs.Actions.{Action, Stored, Drained, Fenced, Loaded, Atomic, Held, held_of, raised, store_covers, ww_fences, wr_fences}
 use Rattle.dt_record.proofs.Holding.{held_from, held-is_from}
 use Rattle.dt_stores.specs.Kept.{Kept}
 use Rattle.dt_stores.specs.Standing.{StoresStand, stores_of}
-use Rattle.dt_stores.specs.Draining.{is_waiting_on, drained_by}
+use Rattle.dt_stores.specs.Draining.{is_waiting_on}
 use Rattle.dt_stores.specs.Places.{is_store_place}
-use Rattle.dt_stores.specs.Plans.{TakesFirst}
+use Rattle.dt_stores.specs.Plans.{TakesFirst, is_among_first}
 use Rattle.dt_stores.specs.GoingOn.{StoresGoOn, is_quiet}
 use Rattle.dt_sources.specs.Choice.{then_action}
 use Rattle.dt_sources.specs.Finding.{are_apart}
@@ -29,7 +25,7 @@ use Rattle.dt_sources.specs.Knowing.{WroteBefore, AreJudged}
 use Rattle.dt_judged.specs.Covering.{taken_by, DrainsCoverStores}
 use Rattle.dt_judged.specs.GoingOn.{IsOnward, IsNewNumber, IsAllowedDrain, JudgedGoesOn}
 use Rattle.dt_judged.proofs.Covered.{taken_parts}
-use Rattle.dt_judged.proofs.Elements.{before_or_last, kept_or_mapped, IsMapped, passing_place, all_pass}
+use Rattle.dt_judged.proofs.Elements.{before_or_last, front_place, mapped_from, passing_place, all_pass}
 
 -- How the actions of a hart go on being judged.
 
@@ -117,16 +113,6 @@ placed_there all seen ww wr (Fenced fence_ww fence_wr fence_rr ∷ xs) i h place
 placed_there all seen ww wr (Loaded ask ∷ xs) i h placed there = placed_there all seen ww wr xs i h placed there
 placed_there all seen ww wr (Atomic key addr width reads acquires ∷ xs) i h placed there = placed_there all seen ww wr xs i h placed there
 
--- those that wait before the place are the first so many
-first_are_taken : (line count end : ℕ) (held : List Held) → length (filter (is_waiting_on line) (take end held)) ≡ count
-    → take count (filter (is_waiting_on line) held) ≡ filter (is_waiting_on line) (take end held)
-first_are_taken line count end held enough =
-    let front : List Held = filter (is_waiting_on line) (take end held) in
-    let rest : List Held = filter (is_waiting_on line) (drop end held) in
-    ap (λ l. take count (filter (is_waiting_on line) l)) (sym (take-append-drop end held))
-    ∙ ap (take count) (filter-append (is_waiting_on line) (take end held) (drop end held))
-    ∙ ap (λ n. take n (front ++ rest)) (sym enough) ∙ take-append_seam front rest
-
 -- the write of a drain covers the stores that the drain takes
 wrote_by : DrainsCoverStores → (writes : List Write) (actions : List Action) (line count : ℕ) (next after : Key) (i : ℕ) (h : Held) (byte : ℕ)
     → IsOnward next after → KeyBelow next after → IsAllowedDrain writes actions next line count
@@ -152,37 +138,39 @@ drained_goes_on laws covers_stores kept writes actions line count next after sta
     record {
       apart = ap are_apart stores ∙ judged.apart;
       placed = ap (list_all is_store_place) stores ∙ judged.placed;
-      drained = λ i h key byte there taken covering. elim (kept_or_mapped (drained_by line next) takes.end (held_of actions) i h (ap (λ l. slice_get l i) (sym takes.after) ∙ there)) [
-        | inl earlier ↦ carried writes next after byte key onward (judged.drained i h key byte earlier taken covering)
-        | inr mapped ↦ by_cases i h key byte mapped taken covering
-      ];
+      drained = λ i h key byte there taken covering.
+          let was = mapped_from (drained_at i) (slice_get (held_of actions) i) h (sym (takes i) ∙ there) in
+          by_cases i was.0 h key byte was.1 was.2 taken covering;
     }
   where
     takes : TakesFirst line next count (held_of actions) (held_of (then_action actions (Drained next line count)))
     takes = laws.drained kept actions next line count stands (taken_parts (held_of actions) line count allowed.write.mask allowed.bytes allowed.took).enough
 
-    now_taken : (i : ℕ) (g : Held) (byte : ℕ) → slice_get (take takes.end (held_of actions)) i ≡ Some g → is_waiting_on line g ≡ true → IsTrue (store_covers byte g.store) → WroteBefore writes after byte next
-    now_taken i g byte there waits covering =
-        let place = passing_place (is_waiting_on line) (take takes.end (held_of actions)) i g there waits in
-        let among : slice_get (taken_by actions line count) place.0 ≡ Some g = ap (λ l. slice_get l place.0) (first_are_taken line count takes.end (held_of actions) takes.enough) ∙ place.1 in
-        wrote_by covers_stores writes actions line count next after place.0 g byte onward later allowed among
-        (placed_there actions [] 0 0 actions i g judged.placed
-        (ap (λ l. slice_get l i) (sym (held-is_from actions)) ∙ slice_get-take takes.end (held_of actions) i g there)) covering
+    drained_at : ℕ → Held → Held
+    drained_at i g = if is_among_first line count (held_of actions) i g then record g { drained = Some next } else g
 
-    by_cases : (i : ℕ) (h : Held) (key : Key) (byte : ℕ) → IsMapped (drained_by line next) (take takes.end (held_of actions)) i h
+    now_taken : (i : ℕ) (g : Held) (byte : ℕ) → slice_get (held_of actions) i ≡ Some g → is_among_first line count (held_of actions) i g ≡ true
+        → IsTrue (store_covers byte g.store) → WroteBefore writes after byte next
+    now_taken i g byte there among covering =
+        let before : ℕ = length (filter (is_waiting_on line) (take i (held_of actions))) in
+        let parts = and_parts (is_waiting_on line g) (nat_lt before count) among in
+        let place = front_place count (filter (is_waiting_on line) (held_of actions)) before g (ltb-true before count parts.1)
+        (passing_place (is_waiting_on line) (held_of actions) i g there parts.0) in
+        wrote_by covers_stores writes actions line count next after before g byte onward later allowed place
+        (placed_there actions [] 0 0 actions i g judged.placed (ap (λ l. slice_get l i) (sym (held-is_from actions)) ∙ there)) covering
+
+    by_cases : (i : ℕ) (g h : Held) (key : Key) (byte : ℕ) → slice_get (held_of actions) i ≡ Some g → drained_at i g ≡ h
         → h.drained ≡ Some key → IsTrue (store_covers byte h.store) → WroteBefore writes after byte key
-    by_cases i h key byte mapped taken covering =
-        let g : Held = mapped.from in
-        elim (cases_Bool (is_waiting_on line g)) [
-          | inl waits ↦
-              let gives : record g { drained = Some next } ≡ h = rw waits at mapped.gives in
-              let its : next ≡ key = (let both : Some next ≡ Some key = ap (λ (b : Held). b.drained) gives ∙ taken in cc both) in
-              let same : g.store ≡ h.store = ap (λ (b : Held). b.store) gives in
-              subst (WroteBefore writes after byte) its (now_taken i g byte mapped.there waits (ap (store_covers byte) same ∙ covering))
+    by_cases i g h key byte there gives taken covering =
+        elim (cases_Bool (is_among_first line count (held_of actions) i g)) [
+          | inl among ↦
+              let now : record g { drained = Some next } ≡ h = rw among at gives in
+              let its : next ≡ key = (let both : Some next ≡ Some key = ap (λ (b : Held). b.drained) now ∙ taken in cc both) in
+              let same : g.store ≡ h.store = ap (λ (b : Held). b.store) now in
+              subst (WroteBefore writes after byte) its (now_taken i g byte there among (ap (store_covers byte) same ∙ covering))
           | inr other ↦
-              let same : g ≡ h = rw other at mapped.gives in
-              let there : slice_get (held_of actions) i ≡ Some h = slice_get-take takes.end (held_of actions) i g mapped.there ∙ ap (λ (b : Held). Some b) same in
-              carried writes next after byte key onward (judged.drained i h key byte there taken covering)
+              let same : g ≡ h = rw other at gives in
+              carried writes next after byte key onward (judged.drained i h key byte (there ∙ ap (λ (b : Held). Some b) same) taken covering)
         ]
 
 pub onward_laws : StoresGoOn → DrainsCoverStores → JudgedGoesOn

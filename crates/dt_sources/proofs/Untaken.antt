@@ -85,7 +85,7 @@ pub widths : (w : ℕ) → IsTrue (is_store_width w) → (w ≡ 1) ⊎ ((w ≡ 2
 widths w narrow = grind (arith, nat_tests)
 
 -- a store that covers a byte lies on its line
-covering_line : (s : OwnStore) (byte : ℕ) → is_store_place s ≡ true → store_covers byte s ≡ true → line_of s.addr ≡ line_of byte
+pub covering_line : (s : OwnStore) (byte : ℕ) → is_store_place s ≡ true → store_covers byte s ≡ true → line_of s.addr ≡ line_of byte
 covering_line s byte placed covering =
     let parts = and_parts (is_store_width s.width) ((s.addr % s.width == 0) && is_in_ram s.addr) placed in
     let aligned : s.addr % s.width ≡ 0 = eqb-true (s.addr % s.width) 0 (and_parts (s.addr % s.width == 0) (is_in_ram s.addr) parts.1).0 in

@@ -1,4 +1,4 @@
-use Rattle.std.proofs.Common.{◌≡◌, ℕ, ◌+◌, ◌-◌, ◌<◌, ◌==◌, ◌&&◌, true, false, if◌then◌else◌, Option, Some, None, is_none, List, [], ◌∷◌, ◌++◌, length, filter, map, nat_lt, nat_le, refl, sym, ap, ◌∙◌, arith, length-append, inl, inr, subst}
+use Rattle.std.proofs.Common.{◌≡◌, ℕ, ◌+◌, ◌-◌, ◌<◌, ◌==◌, ◌&&◌, true, false, if◌then◌else◌, Option, Some, None, is_none, List, [], ◌∷◌, ◌++◌, length, filter, nat_lt, nat_le, refl, sym, ap, ◌∙◌, arith, length-append, inl, inr, subst}
 use Rattle.std.proofs.lemmas.List.{append-nil}
 use Rattle.std.proofs.lemmas.List.Elements.{filter-append}
 use Rattle.std.proofs.lemmas.Bool.{lt-leb, le-leb, lt-ltb, le-ltb, cases_lt, cases_Bool, eqb-true, eq-eqb, ne_eqb, eqb-false, and_right}
@@ -8,7 +8,7 @@ use Rattle.dt_record.specs.Memory.{line_of}
 use Rattle.dt_record.specs.Actions.{Action, Stored, Drained, Fenced, Loaded, Atomic, Held, raised, drains_on, taker, is_on}
 use Rattle.dt_record.proofs.Holding.{held_from}
 use Rattle.dt_stores.specs.Standing.{stores_of, counted}
-use Rattle.dt_stores.specs.Draining.{is_waiting_on, drained_by}
+use Rattle.dt_stores.specs.Draining.{is_waiting_on}
 use Rattle.dt_stores.proofs.ActionLaws.{drains_on-append, taker_past, taker_next, taker_within, taken_within}
 
 -- Which stores a further drain takes: the first that wait on its line.
@@ -25,23 +25,6 @@ marked-none line key (h ∷ hs) =
     elim (cases_Bool (is_waiting_on line h)) [
       | inl waits ↦ rw waits (ap (λ l. h ∷ l) (marked-none line key hs))
       | inr not_here ↦ rw not_here (ap (λ l. h ∷ l) (marked-none line key hs))
-    ]
-
--- where exactly so many wait in the first part, all of these are taken and none after them
-pub marked-append : (line : ℕ) (key : Key) (left : ℕ) (xs ys : List Held) → left ≡ length (filter (is_waiting_on line) xs)
-    → marked line key left (xs ++ ys) ≡ map (drained_by line key) xs ++ ys
-marked-append line key left [] ys none = rw none (marked-none line key ys)
-marked-append line key left (h ∷ xs) ys long =
-    elim (cases_Bool (is_waiting_on line h)) [
-      | inl waits ↦
-          let one : length (filter (is_waiting_on line) (h ∷ xs)) ≡ length (filter (is_waiting_on line) xs) + 1 = rw waits (omega arith) in
-          let some : nat_lt 0 left ≡ true = lt-ltb 0 left (omega arith) in
-          let rest : left - 1 ≡ length (filter (is_waiting_on line) xs) = omega arith in
-          rw (waits, some) (ap (λ l. record h { drained = Some key } ∷ l) (marked-append line key (left - 1) xs ys rest))
-      | inr not_here ↦
-          let same : length (filter (is_waiting_on line) (h ∷ xs)) ≡ length (filter (is_waiting_on line) xs) = rw not_here refl in
-          let rest : left ≡ length (filter (is_waiting_on line) xs) = long ∙ same in
-          rw not_here (ap (λ l. h ∷ l) (marked-append line key left xs ys rest))
     ]
 
 abbrev with_taker : OwnStore → ℕ → ℕ → Option Key → Held

@@ -1,14 +1,14 @@
-use Rattle.std.proofs.Common.{◌≡◌, ℕ, zero, suc, ◌+◌, ◌-◌, ◌<◌, ◌≤◌, Bool, true, false, not, Option, Some, None, List, [], ◌∷◌, length, drop, find, get_or, slice_get, nat_lt, nat_le, IsTrue, refl, sym, ap, ◌∙◌, inl, inr, arith}
+use Rattle.std.proofs.Common.{◌≡◌, ℕ, zero, suc, ◌+◌, ◌-◌, ◌<◌, ◌≤◌, Bool, true, false, not, Option, Some, None, List, [], ◌∷◌, length, drop, filter, find, get_or, max, take, slice_get, nat_lt, nat_le, IsTrue, refl, sym, ap, ◌∙◌, inl, inr, arith}
 use Rattle.std.specs.List.{position_or_len}
 use Rattle.std.specs.List.Sorted.{IsNonDecreasingBy, IsPartitionedBy, IsPartitionPoint}
 use Rattle.std.specs.Option.{option_map_or}
-use Rattle.std.proofs.lemmas.Bool.{cases_Bool, cases_eq, cases_lt, and_parts, not-true, not-false, eqb-true, leb-true, lt-ltb, le-ltb, le-leb, lt-leb, false≢true}
+use Rattle.std.proofs.lemmas.Bool.{cases_Bool, cases_eq, cases_lt, and_parts, and_from, not-true, not-false, eqb-true, leb-true, lt-ltb, le-ltb, le-leb, lt-leb, false≢true}
 use Rattle.std.proofs.lemmas.List.{drop_more}
 use Rattle.std.proofs.lemmas.List.Sums.{passes_at_first, fails_before_first, position_or_len_is, prefix_len-le-length}
 use Rattle.std.proofs.lemmas.Option.{slice_get-get_or}
 use Rattle.dt_record.specs.Actions.{Held, is_on, is_waiting}
 use Rattle.dt_stores.specs.declared.late.Late.{Late}
-use Rattle.dt_stores.specs.Draining.{is_barring, youngest_barrier}
+use Rattle.dt_stores.specs.Draining.{is_barring, is_waiting_on, greatest_barrier}
 use Rattle.dt_stores.specs.Indexed.{AreAt, splits, rises}
 use Rattle.dt_stores.proofs.PlacesOn.{at-length}
 
@@ -79,8 +79,60 @@ no-bar line barrier i d hs within (low, high, rise) above =
     let from_here : IsTrue (rises (λ h. h.barrier) (get_or hs i d).barrier high (get_or hs i d ∷ drop (i + 1) hs)) = rw again parts.1 in
     ap (find (is_barring line barrier)) here ∙ no-bar-from line barrier (get_or hs i d).barrier high (get_or hs i d ∷ drop (i + 1) hs) from_here above
 
+-- the barrier number of the youngest of some stores, or this number where there are none
+abbrev pub youngest_barrier : ℕ → List Held → ℕ
+youngest_barrier barrier [] = barrier
+youngest_barrier barrier (h ∷ hs) = youngest_barrier h.barrier hs
+
+-- where they rise it is the greatest
+youngest_greatest : (low high : ℕ) (hs : List Held) → IsTrue (rises (λ h. h.barrier) low high hs) → youngest_barrier low hs ≡ max low (greatest_barrier hs)
+youngest_greatest low high [] rise = omega arith
+youngest_greatest low high (h ∷ hs) rise =
+    let parts = and_parts (nat_le low h.barrier) (rises (λ h. h.barrier) h.barrier high hs) rise in
+    let higher : low ≤ h.barrier = leb-true low h.barrier parts.0 in
+    let rest = youngest_greatest h.barrier high hs parts.1 in
+    omega arith
+
+rises-lower : (f : Held → ℕ) (low from high : ℕ) (hs : List Held) → low ≤ from → IsTrue (rises f from high hs) → IsTrue (rises f low high hs)
+rises-lower f low from high [] below rise = (let bound : from ≤ high = leb-true from high rise in le-leb low high (omega arith))
+rises-lower f low from high (h ∷ hs) below rise =
+    let parts = and_parts (nat_le from (f h)) (rises f (f h) high hs) rise in
+    let higher : from ≤ f h = leb-true from (f h) parts.0 in
+    and_from (nat_le low (f h)) (rises f (f h) high hs) (le-leb low (f h) (omega arith)) parts.1
+
+-- what is kept of a rising list rises
+rises-filter : (f : Held → ℕ) (p : Held → Bool) (low high : ℕ) (hs : List Held) → IsTrue (rises f low high hs) → IsTrue (rises f low high (filter p hs))
+rises-filter f p low high [] rise = rise
+rises-filter f p low high (h ∷ hs) rise =
+    let parts = and_parts (nat_le low (f h)) (rises f (f h) high hs) rise in
+    let rest = rises-filter f p (f h) high hs parts.1 in
+    elim (cases_Bool (p h)) [
+      | inl kept ↦ rw kept (and_from (nat_le low (f h)) (rises f (f h) high (filter p hs)) parts.0 rest)
+      | inr out ↦ rw out (rises-lower f low (f h) high (filter p hs) (leb-true low (f h) parts.0) rest)
+    ]
+
+rises-bound : (f : Held → ℕ) (low high : ℕ) (hs : List Held) → IsTrue (rises f low high hs) → low ≤ high
+rises-bound f low high [] rise = leb-true low high rise
+rises-bound f low high (h ∷ hs) rise =
+    let parts = and_parts (nat_le low (f h)) (rises f (f h) high hs) rise in
+    let higher : low ≤ f h = leb-true low (f h) parts.0 in
+    let rest : f h ≤ high = rises-bound f (f h) high hs parts.1 in
+    omega arith
+
+rises-take : (f : Held → ℕ) (n low high : ℕ) (hs : List Held) → IsTrue (rises f low high hs) → IsTrue (rises f low high (take n hs))
+rises-take f zero low high hs rise = le-leb low high (rises-bound f low high hs rise)
+rises-take f (suc n) low high [] rise = rise
+rises-take f (suc n) low high (h ∷ hs) rise =
+    let parts = and_parts (nat_le low (f h)) (rises f (f h) high hs) rise in
+    and_from (nat_le low (f h)) (rises f (f h) high (take n hs)) parts.0 (rises-take f n (f h) high hs parts.1)
+
+pub taken-rises : (line n high : ℕ) (held : List Held) → IsTrue (rises (λ h. h.barrier) 0 high held)
+    → IsTrue (rises (λ h. h.barrier) 0 high (take n (filter (is_waiting_on line) held)))
+taken-rises line n high held rise =
+    rises-take (λ h. h.barrier) n 0 high (filter (is_waiting_on line) held) (rises-filter (λ h. h.barrier) (is_waiting_on line) 0 high held rise)
+
 -- the youngest of some stores
-pub youngest-at : (held hs : List Held) (places : List ℕ) (place other : ℕ) → AreAt held places hs → Some place ≡ slice_get places (length places - 1)
+youngest-at : (held hs : List Held) (places : List ℕ) (place other : ℕ) → AreAt held places hs → Some place ≡ slice_get places (length places - 1)
     → option_map_or (λ h. h.barrier) (slice_get held place) 0 ≡ youngest_barrier other hs
 youngest-at held hs [] place other at last = absurd (cc last)
 youngest-at held [] (p ∷ places) place other at last = absurd (cc at)
@@ -93,6 +145,18 @@ youngest-at held (h ∷ []) (p ∷ q ∷ places) place other at last = absurd (c
 youngest-at held (h ∷ g ∷ hs) (p ∷ q ∷ places) place other at last =
     let end : length (p ∷ q ∷ places) - 1 ≡ suc (length (q ∷ places) - 1) = omega arith in
     youngest-at held (g ∷ hs) (q ∷ places) place h.barrier (cc at) (last ∙ ap (slice_get (p ∷ q ∷ places)) end)
+
+pub greatest-at : (held hs : List Held) (places : List ℕ) (place high : ℕ) → AreAt held places hs → IsTrue (rises (λ h. h.barrier) 0 high hs)
+    → Some place ≡ slice_get places (length places - 1) → option_map_or (λ h. h.barrier) (slice_get held place) 0 ≡ greatest_barrier hs
+greatest-at held hs places place high at rise last =
+    let greatest = youngest_greatest 0 high hs rise in
+    youngest-at held hs places place 0 at last ∙ omega (arith, greatest)
+
+-- of no stores
+pub greatest-none : (held hs : List Held) (places : List ℕ) → AreAt held places hs → length places ≡ 0 → 0 ≡ greatest_barrier hs
+greatest-none held [] places at none = refl
+greatest-none held (h ∷ hs) [] at none = absurd (cc at)
+greatest-none held (h ∷ hs) (p ∷ places) at none = absurd (omega arith)
 
 -- by halves
 pub from-partition : {X : Type 0} (q p : X → Bool) (xs : List X) (i : ℕ) → ((x : X) → p x ≡ not (q x)) → i ≤ length xs

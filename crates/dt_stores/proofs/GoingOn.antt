@@ -1,62 +1,62 @@
-use Rattle.std.proofs.Common.{ℕ, ◌≡◌, ◌+◌, ◌-◌, ◌≤◌, Some, IfSome, true, false, None, List, [], ◌∷◌, ◌++◌, length, filter, take, drop, zero, suc, refl, sym, ap, ◌∙◌, inl, inr, IsTrue, arith}
-use Rattle.std.proofs.lemmas.List.{append-nil, take-append-drop}
-use Rattle.std.proofs.lemmas.Bool.{cases_Bool}
+use Rattle.std.proofs.Common.{ℕ, ◌≡◌, ◌+◌, ◌-◌, ◌≤◌, ◌&&◌, Bool, true, false, if◌then◌else◌, nat_lt, Option, Some, None, option_map, IfSome, List, [], ◌∷◌, ◌++◌, length, filter, slice_get, take, zero, suc, refl, sym, ap, ◌∙◌, subst, inl, inr, IsTrue, arith}
+use Rattle.std.proofs.lemmas.List.{append-nil}
+use Rattle.std.proofs.lemmas.Bool.{cases_Bool, cases_lt, lt-ltb, le-ltb}
 use Rattle.std.proofs.lemmas.List.Elements.{All-cons, All-head, All-tail, All-same, All-push}
 use Rattle.dt_record.specs.Keys.{KeyBelow}
 use Rattle.dt_record.specs.declared.keys.Key.{Key}
 use Rattle.dt_record.specs.declared.accesses.OwnStore.{OwnStore}
 use Rattle.dt_record.specs.Actions.{Action, Stored, Drained, Fenced, Loaded, Atomic, Held, held_of, ww_fences, wr_fences, drains_on}
 use Rattle.dt_stores.specs.Kept.{Kept, without_past}
-use Rattle.dt_stores.specs.Standing.{StoresStand, stores_of, counted}
+use Rattle.dt_stores.specs.Standing.{StoresStand, stores_of}
 use Rattle.dt_stores.specs.Draining.{is_waiting_on}
-use Rattle.dt_stores.specs.Plans.{TakesFirst}
+use Rattle.dt_stores.specs.Plans.{TakesFirst, is_among_first}
 use Rattle.dt_stores.specs.GoingOn.{StoresGoOn, AreDrainedBelow, DrainsStayBelow, is_quiet}
 use Rattle.dt_record.proofs.Holding.{held_from}
 use Rattle.dt_stores.proofs.ActionLaws.{stores_of-append}
-use Rattle.dt_stores.proofs.DrainLaws.{marked, marked-append}
+use Rattle.dt_stores.proofs.DrainLaws.{marked}
 use Rattle.dt_stores.proofs.Marking.{walk}
 use Rattle.dt_stores.proofs.StandingLaws.{held_after, held_drained, stands_stored, stands_drained}
 
 -- What the stores of a hart are after one more action.
 
--- the place before which so many wait, where so many do
-record Front (line count : ℕ) (held : List Held) : Type 0 where
-  end : ℕ
-  within : end ≤ length held
-  enough : length (filter (is_waiting_on line) (take end held)) ≡ count
-
-further : (line count : ℕ) (h : Held) (hs : List Held) → is_waiting_on line h ≡ true → Front line count hs → Front line (suc count) (h ∷ hs)
-further line count h hs waits front = record {
-  end = suc front.end;
-  within = omega (arith, front.within);
-  enough = rw waits (omega (arith, front.enough));
-}
-
-past : (line count : ℕ) (h : Held) (hs : List Held) → is_waiting_on line h ≡ false → Front line count hs → Front line count (h ∷ hs)
-past line count h hs not_here front = record {
-  end = suc front.end;
-  within = omega (arith, front.within);
-  enough = rw not_here front.enough;
-}
-
-front_of : (line count : ℕ) (held : List Held) → count ≤ length (filter (is_waiting_on line) held) → Front line count held
-front_of line zero held enough = record { end = 0; within = omega arith; enough = refl }
-front_of line (suc count) [] enough = absurd (omega arith)
-front_of line (suc count) (h ∷ hs) enough = elim (cases_Bool (is_waiting_on line h)) [
-  | inl waits ↦
-      let more : suc count ≤ suc (length (filter (is_waiting_on line) hs)) = rw waits at enough in
-      further line count h hs waits (front_of line count hs (omega arith))
-  | inr not_here ↦ past line (suc count) h hs not_here (front_of line (suc count) hs (rw not_here at enough))
+less_by_one : (n left : ℕ) → nat_lt n (left - 1) ≡ nat_lt (suc n) left
+less_by_one n left = elim (cases_lt n (left - 1)) [
+  | inl below ↦ lt-ltb n (left - 1) below ∙ sym (lt-ltb (suc n) left (omega arith))
+  | inr above ↦ le-ltb n (left - 1) above ∙ sym (le-ltb (suc n) left (omega arith))
 ]
 
-marked_takes : (line : ℕ) (key : Key) (count : ℕ) (old new : List Held) → Front line count old → new ≡ marked line key count old → TakesFirst line key count old new
-marked_takes line key count old new front is = record {
-  end = front.end;
-  within = front.within;
-  enough = front.enough;
-  after = is ∙ ap (λ l. marked line key count l) (sym (take-append-drop front.end old))
-      ∙ marked-append line key count (take front.end old) (drop front.end old) (sym front.enough);
-}
+none_before : (n left : ℕ) → left ≡ 0 → nat_lt n left ≡ nat_lt (suc n) left
+none_before n left none = le-ltb n left (omega arith) ∙ sym (le-ltb (suc n) left (omega arith))
+
+-- the store at a place, taken where it waits on the line and a test says so
+abbrev taken_if : (line : ℕ) (key : Key) → Bool → Held → Held
+taken_if line key first h = if is_waiting_on line h && first then record h { drained = Some key } else h
+
+abbrev MarksAt : (line : ℕ) (key : Key) (left : ℕ) → List Held → ℕ → Type 0
+MarksAt line key left held i = slice_get (marked line key left held) i ≡ option_map (λ h. if is_among_first line left held i h then record h { drained = Some key } else h) (slice_get held i)
+
+marks_first : (line : ℕ) (key : Key) (left : ℕ) (h : Held) (hs : List Held) → MarksAt line key left (h ∷ hs) zero
+marks_first line key left h hs = elim (cases_Bool (is_waiting_on line h && nat_lt 0 left)) [
+  | inl taken ↦ rw taken refl
+  | inr kept ↦ rw kept refl
+]
+
+marks_later : (line : ℕ) (key : Key) (left i : ℕ) (h : Held) (hs : List Held) → ((some : ℕ) → MarksAt line key some hs i) → MarksAt line key left (h ∷ hs) (suc i)
+marks_later line key left i h hs rest =
+    let before : ℕ = length (filter (is_waiting_on line) (take i hs)) in
+    let taken : Bool → Option Held = λ first. option_map (taken_if line key first) (slice_get hs i) in
+    elim (cases_Bool (is_waiting_on line h)) [
+      | inl waits ↦ elim (cases_lt 0 left) [
+        | inl some ↦ (let more : nat_lt 0 left ≡ true = lt-ltb 0 left some in rw (waits, more) (rest (left - 1) ∙ ap taken (less_by_one before left)))
+        | inr none ↦ (let done : nat_lt 0 left ≡ false = le-ltb 0 left none in rw (waits, done) (rest left ∙ ap taken (none_before before left (omega arith))))
+      ]
+      | inr not_here ↦ rw not_here (rest left)
+    ]
+
+marked_first : (line : ℕ) (key : Key) (left : ℕ) (held : List Held) → TakesFirst line key left held (marked line key left held)
+marked_first line key left [] i = refl
+marked_first line key left (h ∷ hs) zero = marks_first line key left h hs
+marked_first line key left (h ∷ hs) (suc i) = marks_later line key left i h hs (λ some. marked_first line key some hs i)
 
 -- what stands for the actions has their stores and fences
 standing : (kept : Kept) (actions : List Action) → StoresStand kept actions → StoresStand (without_past (held_of actions) (ww_fences actions) (wr_fences actions)) actions
@@ -75,8 +75,8 @@ drained_first : (kept : Kept) (actions : List Action) (key : Key) (line count : 
 drained_first kept actions key line count stands enough =
     let old : Kept = without_past (held_of actions) (ww_fences actions) (wr_fences actions) in
     let new : Kept = without_past (marked line key count (held_of actions)) (ww_fences actions) (wr_fences actions) in
-    marked_takes line key count (held_of actions) (held_of (actions ++ Drained key line count ∷ [])) (front_of line count (held_of actions) enough)
-    (sym (stands_drained old new key line count actions refl refl refl enough (standing kept actions stands)).held)
+    subst (TakesFirst line key count (held_of actions)) (stands_drained old new key line count actions refl refl refl enough (standing kept actions stands)).held
+    (marked_first line key count (held_of actions))
 
 unchanged : (actions : List Action) (action : Action) → ((line : ℕ) → drains_on line (action ∷ []) ≡ [])
     → ((all : List Action) (seen : List OwnStore) (ww wr : ℕ) → held_from all seen ww wr (action ∷ []) ≡ []) → held_of (actions ++ action ∷ []) ≡ held_of actions

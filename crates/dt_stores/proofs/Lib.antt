@@ -6,7 +6,9 @@ mod GoingOn
 mod Keeping
 mod Lists
 mod Marking
+mod MergedBytes
 mod MergeLaws
+pub mod Merging
 mod PlacesOn
 mod PlanLaws
 mod RamLines

@@ -1,14 +1,14 @@
 use Rattle.std.proofs.Common.{◌≡◌, ℕ, ◌+◌, ◌-◌, ◌*◌, ◌^◌, ◌%◌, ◌≤◌, ◌<◌, List, ◌++◌, length, take, drop, ap, arith, ◌∙◌}
 use Rattle.std.specs.Int.{to_le_bytes, w64}
 use Rattle.std.proofs.Math.Pow.{pow_mono}
-use Rattle.std.proofs.Math.Nat.{mod-eq_of_lt, mul-lt-mul_of_pos_right}
-use Rattle.std.proofs.lemmas.Nat.{pow-add, pow_pos}
+use Rattle.std.proofs.Math.Nat.{mod-eq_of_lt}
+use Rattle.std.proofs.lemmas.Nat.{pow_pos}
 use Rattle.std.proofs.lemmas.List.{length-take-le}
 use Rattle.dt_record.proofs.Placed.{ones-fit}
 use Rattle.dt_record.specs.declared.accesses.OwnStore.{OwnStore}
 use Rattle.dt_record.specs.Spelling.{double}
 use Rattle.dt_record.specs.Writes.{width_mask}
-use Rattle.dt_stores.specs.Draining.{put_over}
+use Rattle.dt_stores.specs.Taking.{put_over}
 
 -- so shifting it loses nothing
 pub shifted_mask : (place width : ℕ) → width ≤ 8 → place + width ≤ 64

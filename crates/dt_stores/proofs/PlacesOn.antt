@@ -1,4 +1,5 @@
 use Rattle.std.proofs.Common.{◌≡◌, ℕ, zero, suc, ◌-◌, ◌<◌, ◌≤◌, true, false, not, if◌then◌else◌, Option, None, Some, List, [], ◌∷◌, ◌++◌, length, take, drop, filter, map, slice_get, set, get_or, nat_lt, IsTrue, refl, sym, ap, ◌∙◌, inl, inr, arith}
+use Rattle.std.specs.List.{filter_map}
 use Rattle.std.specs.Option.{option_and_then}
 use Rattle.std.proofs.lemmas.List.{map-append, take-map, length-map}
 use Rattle.std.proofs.lemmas.Bool.{cases_Bool, and_parts, and_from, and_left, and_right, not-true, lt-ltb}
@@ -7,10 +8,14 @@ use Rattle.dt_record.specs.Actions.{Held, is_on, is_waiting}
 use Rattle.dt_stores.specs.Draining.{is_waiting_on}
 use Rattle.dt_stores.specs.Indexed.{on_line, places_on, AreAt, splits}
 use Rattle.dt_stores.specs.Past.{released}
-use Rattle.dt_stores.specs.Taking.{stores_at, drained_one, drained_at}
+use Rattle.dt_stores.specs.Taking.{drained_one, drained_at}
 use Rattle.dt_stores.proofs.DrainLaws.{marked, marked-none}
 
 -- Where the stores of a line stand, and what taking them by their places does.
+
+-- the stores at some places
+abbrev pub stores_at : List Held → List ℕ → List Held
+stores_at held places = filter_map (slice_get held) places
 
 pub drop-map : {X Y : Type 0} (f : X → Y) (n : ℕ) (xs : List X) → drop n (map f xs) ≡ map f (drop n xs)
 drop-map f zero xs = refl

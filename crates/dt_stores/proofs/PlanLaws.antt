@@ -7,7 +7,7 @@ use Rattle.dt_stores.specs.declared.answers.DrainAnswer.{DrainAnswer}
 use Rattle.dt_stores.specs.declared.answers.DrainAnswer.TheVariants as answer
 use Rattle.dt_stores.specs.Kept.{Kept}
 use Rattle.dt_stores.specs.Standing.{StoresStand}
-use Rattle.dt_stores.specs.Draining.{is_waiting_on, is_barring, youngest_barrier, took, barred_or, answer_among, drain_answer, is_taking, OnTook}
+use Rattle.dt_stores.specs.Draining.{is_waiting_on, is_barring, greatest_barrier, took, barred_or, answer_among, drain_answer, is_taking, OnTook}
 use Rattle.dt_stores.proofs.Firsts.{find-behind}
 
 -- whether one bars it
@@ -35,23 +35,23 @@ drained-bars-none line barrier h drained = rw drained refl
 
 pub bars : (line count first barrier seq : ℕ) (held : List Held) → count ≤ length (filter (is_waiting_on line) held)
     → first ≤ position_or_len is_waiting held
-    → barrier ≡ youngest_barrier 0 (take count (filter (is_waiting_on line) held))
+    → barrier ≡ greatest_barrier (take count (filter (is_waiting_on line) held))
     → Some seq ≡ option_map (λ h. h.store.seq) (find (is_barring line barrier) (drop first held))
     → answer.Barred seq ≡ answer_among held line count
 bars line count first barrier seq held enough before barrier_is found =
     sym (answers_by line count held enough
-    ∙ barred-some (find (is_barring line (youngest_barrier 0 (take count (filter (is_waiting_on line) held)))) held) seq (took (take count (filter (is_waiting_on line) held)))
+    ∙ barred-some (find (is_barring line (greatest_barrier (take count (filter (is_waiting_on line) held)))) held) seq (took line (take count (filter (is_waiting_on line) held)))
     (sym (found ∙ ap (option_map (λ (h : Held). h.store.seq)) (find-behind (is_barring line barrier) is_waiting (drained-bars-none line barrier) first held before)
     ∙ ap (λ b. option_map (λ h. h.store.seq) (find (is_barring line b) held)) barrier_is)))
 
 pub takes : (line count first barrier : ℕ) (held : List Held) → count ≤ length (filter (is_waiting_on line) held)
     → first ≤ position_or_len is_waiting held
-    → barrier ≡ youngest_barrier 0 (take count (filter (is_waiting_on line) held))
+    → barrier ≡ greatest_barrier (take count (filter (is_waiting_on line) held))
     → None ≡ option_map (λ h. h.store.seq) (find (is_barring line barrier) (drop first held))
-    → took (take count (filter (is_waiting_on line) held)) ≡ answer_among held line count
+    → took line (take count (filter (is_waiting_on line) held)) ≡ answer_among held line count
 takes line count first barrier held enough before barrier_is found =
     sym (answers_by line count held enough
-    ∙ barred-none (find (is_barring line (youngest_barrier 0 (take count (filter (is_waiting_on line) held)))) held) (took (take count (filter (is_waiting_on line) held)))
+    ∙ barred-none (find (is_barring line (greatest_barrier (take count (filter (is_waiting_on line) held)))) held) (took line (take count (filter (is_waiting_on line) held)))
     (sym (found ∙ ap (option_map (λ (h : Held). h.store.seq)) (find-behind (is_barring line barrier) is_waiting (drained-bars-none line barrier) first held before)
     ∙ ap (λ b. option_map (λ h. h.store.seq) (find (is_barring line b) held)) barrier_is)))
 

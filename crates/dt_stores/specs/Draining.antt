@@ -1,11 +1,9 @@
-use Rattle.std.specs.Prelude.{ℕ, ◌+◌, ◌%◌, ◌&&◌, Bool, true, false, not, if◌then◌else◌, Option, Some, option_map, List, [], ◌∷◌, ◌++◌, length, take, drop, filter, find, replicate, nat_lt, bit_or}
+use Rattle.std.specs.Prelude.{ℕ, ◌&&◌, Bool, true, false, not, if◌then◌else◌, Option, option_map, List, [], ◌∷◌, length, take, filter, find, map, max, reverse, nat_lt}
+use Rattle.std.specs.List.{list_any, range_with_len}
 use Rattle.std.specs.Option.{option_map_or}
-use Rattle.dt_record.specs.declared.keys.Key.{Key}
-use Rattle.dt_record.specs.declared.accesses.OwnStore.{OwnStore}
-use Rattle.dt_record.specs.Actions.{Action, Held, held_of, is_on, is_waiting, forwarded}
+use Rattle.std.specs.Simd.Lanes.{mask_l}
+use Rattle.dt_record.specs.Actions.{Action, Held, held_of, is_on, is_waiting, store_covers, forwarded}
 use Rattle.dt_record.specs.LoadSources.{stored_byte}
-use Rattle.dt_record.specs.Spelling.{double}
-use Rattle.dt_record.specs.Writes.{width_mask}
 use Rattle.dt_stores.specs.declared.answers.DrainAnswer.{DrainAnswer}
 use Rattle.dt_stores.specs.declared.answers.DrainAnswer.TheVariants as answer
 use Rattle.dt_stores.specs.declared.answers.Forward.{Forward}
@@ -16,32 +14,29 @@ use Rattle.dt_stores.specs.declared.answers.Forward.{Forward}
 abbrev pub is_waiting_on : ℕ → Held → Bool
 is_waiting_on line h = is_waiting h && is_on line h.store
 
--- the store once a drain of the line has taken it, where it waits there
-abbrev pub drained_by : ℕ → Key → Held → Held
-drained_by line key h = if is_waiting_on line h then record h { drained = Some key } else h
+-- some store covers the byte at an address
+abbrev pub is_covered : List Held → ℕ → Bool
+is_covered stores addr = list_any (λ h. store_covers addr h.store) stores
 
--- the mask of the bytes of a line that some stores cover, beside a mask
-abbrev pub merged_mask : ℕ → List Held → ℕ
-merged_mask mask [] = mask
-merged_mask mask (h ∷ hs) = merged_mask (bit_or mask (width_mask (h.store.addr % 64) h.store.width)) hs
+-- the byte there of the youngest store that covers it, or 0
+abbrev pub youngest_byte : List Held → ℕ → ℕ
+youngest_byte stores addr = option_map_or (stored_byte addr) (find (λ h. store_covers addr h.store) (reverse stores)) 0
 
--- a line with the bytes of a store over its own
-abbrev pub put_over : List ℕ → OwnStore → List ℕ
-put_over bytes s = take (s.addr % 64) bytes ++ take s.width (double s.value) ++ drop (s.addr % 64 + s.width) bytes
+-- the mask of the bytes of a line that some stores cover, and those bytes
+unfoldable pub mask_over : (line : ℕ) → List Held → ℕ
+mask_over line stores = mask_l (map (is_covered stores) (range_with_len line 64))
 
--- a line with the bytes of some stores over its own, a younger store over an older one
-abbrev pub merged_bytes : List ℕ → List Held → List ℕ
-merged_bytes bytes [] = bytes
-merged_bytes bytes (h ∷ hs) = merged_bytes (put_over bytes h.store) hs
+unfoldable pub bytes_over : (line : ℕ) → List Held → List ℕ
+bytes_over line stores = map (youngest_byte stores) (range_with_len line 64)
 
 -- the answer where a drain takes these stores of a line
-abbrev pub took : List Held → DrainAnswer
-took taken = answer.Took (merged_mask 0 taken) (merged_bytes (replicate 64 0) taken)
+abbrev pub took : (line : ℕ) → List Held → DrainAnswer
+took line taken = answer.Took (mask_over line taken) (bytes_over line taken)
 
--- the barrier number of the youngest of some stores, or this number where there are none
-abbrev pub youngest_barrier : ℕ → List Held → ℕ
-youngest_barrier barrier [] = barrier
-youngest_barrier barrier (h ∷ hs) = youngest_barrier h.barrier hs
+-- the greatest barrier number of some stores, or 0
+abbrev pub greatest_barrier : List Held → ℕ
+greatest_barrier [] = 0
+greatest_barrier (h ∷ hs) = max h.barrier (greatest_barrier hs)
 
 -- a store on another line that waits, with a lower barrier number
 abbrev pub is_barring : ℕ → ℕ → Held → Bool
@@ -50,7 +45,7 @@ is_barring line barrier h = is_waiting h && (not (is_on line h.store) && nat_lt 
 -- the answer where so many stores of a line are taken, unless an older store bars that
 abbrev pub barred_or : List Held → ℕ → List Held → DrainAnswer
 barred_or held line taken =
-    option_map_or (λ h. answer.Barred h.store.seq) (find (is_barring line (youngest_barrier 0 taken)) held) (took taken)
+    option_map_or (λ h. answer.Barred h.store.seq) (find (is_barring line (greatest_barrier taken)) held) (took line taken)
 
 -- the answer of a drain of so many stores of a line, among a hart's stores: too few wait there, or
 -- the oldest that bars it, or what it writes

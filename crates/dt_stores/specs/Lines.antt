@@ -1,5 +1,6 @@
 use Rattle.std.specs.Prelude.{ℕ, ◌≡◌, ◌<◌, ◌-◌, ◌/◌, ◌==◌, if◌then◌else◌, Option, None, List, [], IsSomeAnd, slice_get, vec_len, vec_capacity}
 use Rattle.std.specs.Option.{option_map_or}
+use Rattle.dt_record.specs.declared.limits.TheConstants.{LINE_SIZE, RAM_START}
 use Rattle.dt_record.specs.Lawful.{is_ram_line}
 use Rattle.dt_record.specs.Actions.{Held}
 use Rattle.dt_stores.specs.declared.lines.Line.{Line}
@@ -8,7 +9,7 @@ use Rattle.dt_stores.specs.Indexed.{places_on}
 -- How the stores of a line are found by its place in RAM.
 
 abbrev pub line_place : ℕ → ℕ
-line_place line = (line - 0x8000_0000) / 64
+line_place line = (line - RAM_START) / LINE_SIZE
 
 abbrev pub line_in : List Line → ℕ → Option Line
 line_in lines line = if is_ram_line line then slice_get lines (line_place line) else None

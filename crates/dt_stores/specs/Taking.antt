@@ -1,14 +1,20 @@
-use Rattle.std.specs.Prelude.{ℕ, ◌≡◌, bit_or, zero, suc, Option, List, [], ◌∷◌, slice_get}
-use Rattle.std.specs.List.{filter_map, cons_option}
+use Rattle.std.specs.Prelude.{ℕ, ◌+◌, ◌%◌, ◌&&◌, zero, suc, Option, List, [], ◌∷◌, ◌++◌, take, drop, IsTrue}
+use Rattle.std.specs.List.{list_all}
 use Rattle.dt_record.specs.declared.keys.Key.{Key}
-use Rattle.dt_record.specs.Actions.{Held}
-use Rattle.dt_stores.specs.Draining.{merged_mask}
+use Rattle.dt_record.specs.declared.accesses.OwnStore.{OwnStore}
+use Rattle.dt_record.specs.Actions.{Held, is_on}
+use Rattle.dt_record.specs.Spelling.{double}
+use Rattle.dt_stores.specs.Places.{is_store_place}
 
--- How the drain of the stores at some places is set.
+-- How the stores that a drain takes are written, and how their drain is set.
 
--- the stores at some places
-abbrev pub stores_at : List Held → List ℕ → List Held
-stores_at held places = filter_map (slice_get held) places
+-- stores that have a place in RAM, each on the line
+abbrev pub AreOnLine : ℕ → List Held → Type 0
+AreOnLine line hs = IsTrue (list_all (λ h. is_store_place h.store && is_on line h.store) hs)
+
+-- a line with the bytes of a store over its own
+abbrev pub put_over : List ℕ → OwnStore → List ℕ
+put_over bytes s = take (s.addr % 64) bytes ++ take s.width (double s.value) ++ drop (s.addr % 64 + s.width) bytes
 
 -- the store at a place is drained by this drain, or by none
 abbrev pub drained_one : Option Key → ℕ → List Held → List Held
@@ -20,7 +26,3 @@ drained_one drain (suc place) (h ∷ hs) = h ∷ drained_one drain place hs
 abbrev pub drained_at : Option Key → List ℕ → List Held → List Held
 drained_at drain [] held = held
 drained_at drain (place ∷ places) held = drained_at drain places (drained_one drain place held)
-
--- these bits are what a store, where there is one, adds to a mask before later stores do
-abbrev pub AddsMask : Option Held → ℕ → Type 0
-AddsMask o bits = (mask : ℕ) (hs : List Held) → merged_mask mask (cons_option o hs) ≡ merged_mask (bit_or mask bits) hs

@@ -1,4 +1,5 @@
 ghost use Rattle.std.specs.Prelude.{◌≡◌, ◌+◌, ◌<◌, [], ◌∷◌, ◌↔◌, true, false, length, IsTrue, IfSome, IfOk, All, OnOk, OnErr, List, Bool};
+ghost use Rattle.dt_record.specs.declared.limits.TheConstants.{RECORD_LIMIT};
 ghost use Rattle.dt_record.specs.Actions.{Action, Stored, Drained, Fenced, raised};
 ghost use Rattle.dt_record.specs.Keys.{KeyBelow};
 ghost use Rattle.dt_stores.specs.Kept.{without_past};
@@ -101,7 +102,7 @@ impl Stores {
 
     /// A fence: whether it orders writes before writes, and writes before reads.
     pub fn fence(&mut self, ww: bool, wr: bool)
-        requires { (self.old.ww < 4194304) × (self.old.wr < 4194304) }
+        requires { (self.old.ww < RECORD_LIMIT) × (self.old.wr < RECORD_LIMIT) }
         ensures gains { (rr : Bool) → GainsAction self.old self.new (Fenced ww wr rr) }
         ensures fences { (self.new.ww ≡ raised self.old.ww ww) × (self.new.wr ≡ raised self.old.wr wr) }
         ensures marks { KeepsMarks self.old self.new }
@@ -247,7 +248,7 @@ impl Stores {
 }
 
 fn count_fence(fences: u32, orders: bool) -> u32
-    requires { fences < 4194304 }
+    requires { fences < RECORD_LIMIT }
     ensures { result ≡ raised fences orders }
 {
     if orders { fences + 1 } else { fences }

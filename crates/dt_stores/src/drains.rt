@@ -1,11 +1,13 @@
-ghost use Rattle.std.specs.Prelude.{◌≡◌, ◌≤◌, ◌<◌, ◌↔◌, ℕ, All, IfSome, List, option_map, length, filter, find, replicate, slice_get, IsTrue};
-ghost use Rattle.std.specs.List.{position_or_len};
+ghost use Rattle.std.specs.Prelude.{◌≡◌, ◌≤◌, ◌<◌, ◌%◌, ◌↔◌, ℕ, All, IfSome, List, option_map, length, filter, find, slice_get, IsTrue};
+ghost use Rattle.std.specs.List.{list_all, position_or_len};
 ghost use Rattle.std.specs.Option.{option_map_or};
 ghost use Rattle.dt_record.specs.Actions.{Held, is_waiting};
 ghost use Rattle.dt_record.specs.Keys.{KeyBelow};
-ghost use Rattle.dt_stores.specs.Draining.{is_waiting_on, is_barring, put_over, youngest_barrier, merged_mask, merged_bytes, took, answer_among};
+ghost use Rattle.dt_record.specs.Writes.{width_mask};
+ghost use Rattle.dt_stores.specs.Draining.{is_waiting_on, is_barring, greatest_barrier, mask_over, bytes_over, took, answer_among};
 ghost use Rattle.dt_stores.specs.Indexed.{AreAt, rises};
-ghost use Rattle.dt_stores.specs.Taking.{stores_at, drained_at, drained_one, AddsMask};
+ghost use Rattle.dt_stores.specs.Places.{is_store_place};
+ghost use Rattle.dt_stores.specs.Taking.{AreOnLine, put_over, drained_at, drained_one};
 
 use crate::answers::DrainAnswer;
 use crate::entries::Entry;
@@ -24,6 +26,7 @@ pub fn answer_of(
     requires waiting { AreAt entries.now waiting.now (filter (is_waiting_on line) entries.now) }
     requires first { first ≡ position_or_len is_waiting entries.now }
     requires within { first ≤ length entries.now }
+    requires placed { IsTrue (list_all (λ h. is_store_place h.store) entries.now) }
     requires barriers { (high : ℕ) × IsTrue (rises (λ h. h.barrier) 0 high entries.now) }
     ensures { result ≡ answer_among entries.now line count }
 {
@@ -39,9 +42,10 @@ pub fn answer_of(
     }
 }
 
-/// The barrier number of the youngest of these stores, or 0.
+/// The barrier number of the youngest of these stores, whose barrier numbers rise, or 0.
 fn youngest_barrier(entries: &[Entry], places: &[u32]) -> u32
-    ensures { (hs : List Held) → AreAt entries.now places.now hs → result ≡ youngest_barrier 0 hs }
+    ensures { (hs : List Held) (high : ℕ) → AreAt entries.now places.now hs → IsTrue (rises (λ h. h.barrier) 0 high hs)
+        → result ≡ greatest_barrier hs }
 {
     match places.last() {
         None => 0,
@@ -77,7 +81,7 @@ fn barring(entries: &[Entry], line: u64, barrier: u32) -> Option<u32>
 
 /// What a drain writes that takes these stores.
 fn merged(entries: &[Entry], places: &[u32]) -> DrainAnswer
-    ensures { result ≡ took (stores_at entries.now places.now) }
+    ensures { (line : ℕ) (hs : List Held) → AreAt entries.now places.now hs → AreOnLine line hs → result ≡ took line hs }
 {
     DrainAnswer::Took {
         mask: mask_of(entries, places),
@@ -86,7 +90,7 @@ fn merged(entries: &[Entry], places: &[u32]) -> DrainAnswer
 }
 
 fn mask_of(entries: &[Entry], places: &[u32]) -> u64
-    ensures { result ≡ merged_mask 0 (stores_at entries.now places.now) }
+    ensures { (line : ℕ) (hs : List Held) → AreAt entries.now places.now hs → AreOnLine line hs → result ≡ mask_over line hs }
 {
     let mut mask = 0;
     for place in places {
@@ -97,7 +101,7 @@ fn mask_of(entries: &[Entry], places: &[u32]) -> u64
 
 /// The mask of the store at a place, or 0.
 fn mask_at(entries: &[Entry], place: u32) -> u64
-    ensures { AddsMask (slice_get entries.now place) result }
+    ensures { result ≡ option_map_or (λ h. width_mask (h.store.addr % 64) h.store.width) (slice_get entries.now place) 0 }
 {
     match store_at(entries, place) {
         None => 0,
@@ -106,7 +110,7 @@ fn mask_at(entries: &[Entry], place: u32) -> u64
 }
 
 fn bytes_of(entries: &[Entry], places: &[u32]) -> [u8; 64]
-    ensures { result ≡ merged_bytes (replicate 64 0) (stores_at entries.now places.now) }
+    ensures { (line : ℕ) (hs : List Held) → AreAt entries.now places.now hs → AreOnLine line hs → result ≡ bytes_over line hs }
 {
     let mut bytes = [0; 64];
     for place in places {

@@ -4,9 +4,10 @@ ghost use Rattle.dt_record.specs.Keys.{KeyBelow};
 ghost use Rattle.dt_record.specs.LoadSources.{stored_byte};
 ghost use Rattle.dt_record.specs.Memory.{line_of};
 ghost use Rattle.dt_record.specs.Writes.{width_mask};
-ghost use Rattle.dt_stores.specs.Draining.{is_barring, put_over, forward_of};
+ghost use Rattle.dt_stores.specs.Draining.{is_barring, forward_of};
 ghost use Rattle.dt_stores.specs.Oldest.{is_asked};
 ghost use Rattle.dt_stores.specs.Places.{is_store_place};
+ghost use Rattle.dt_stores.specs.Taking.{put_over};
 
 use crate::answers::{Forward, Which};
 use crate::lines::line_of;

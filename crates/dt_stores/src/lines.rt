@@ -1,15 +1,13 @@
-ghost use Rattle.std.specs.Prelude.{◌≡◌, ◌+◌, ◌-◌, ◌≤◌, ◌<◌, ◌++◌, ◌∷◌, [], length, drop, vec_len, vec_capacity, IsTrue, OnOk};
+ghost use Rattle.std.specs.Prelude.{◌≡◌, ◌+◌, ◌-◌, ◌/◌, ◌≤◌, ◌<◌, ◌++◌, ◌∷◌, [], length, drop, vec_len, vec_capacity, IsTrue, OnOk};
 ghost use Rattle.std.specs.Option.{option_copied};
+ghost use Rattle.dt_record.specs.declared.limits.TheConstants.{LINE_SIZE, RAM_END, RAM_START};
 ghost use Rattle.dt_record.specs.Lawful.{is_ram_line};
 ghost use Rattle.dt_record.specs.Memory.{line_of};
 ghost use Rattle.dt_stores.specs.Lines.{line_place, line_in, places_in, taken_in, HasRoom, KeepsPlaces, KeepsTaken, SetsPlaces, SetsTaken};
 ghost use Rattle.dt_stores.specs.Past.{without_last};
 
+use dt_record::{RAM_END, RAM_START};
 use std::alloc::AllocError;
-
-const RAM_BEGIN: u64 = 0x8000_0000;
-
-const RAM_END: u64 = 0x8400_0000;
 
 /// The stores on one line of RAM.
 #[derive(Debug, Drop)]
@@ -30,14 +28,14 @@ pub fn line_of(addr: u64) -> u64
 fn is_ram_line(line: u64) -> bool
     ensures { result ≡ is_ram_line line }
 {
-    line % 64 == 0 && RAM_BEGIN <= line && line < RAM_END
+    line % 64 == 0 && RAM_START <= line && line < RAM_END
 }
 
 fn place_of(line: u64) -> usize
     requires { IsTrue (is_ram_line line) }
     ensures { result ≡ line_place line }
 {
-    ((line - RAM_BEGIN) / 64) as usize
+    ((line - RAM_START) / 64) as usize
 }
 
 fn line_at(lines: &[Line], line: u64) -> Option<&Line>
@@ -94,7 +92,7 @@ pub fn make_room(lines: &mut Vec<Line>, line: u64) -> Result<(), AllocError>
 
 /// Gives each line up to a place its list of stores.
 fn grow(lines: &mut Vec<Line>, place: usize) -> Result<(), AllocError>
-    requires { place < 1048576 }
+    requires { place < (RAM_END - RAM_START) / LINE_SIZE }
     ensures places { KeepsPlaces lines.old.items lines.new.items }
     ensures taken { KeepsTaken lines.old.items lines.new.items }
     ensures there { OnOk result (place < vec_len lines.new) }

@@ -1,6 +1,6 @@
 use Rattle.std.proofs.Common.{◌≡◌, drop}
-use Rattle.dt_stores.specs.Draining.{merged_mask}
-use Rattle.dt_stores.specs.Taking.{stores_at}
+use Rattle.dt_stores.proofs.Merging.{merged_mask}
+use Rattle.dt_stores.proofs.PlacesOn.{stores_at}
 use Rattle.dt_stores.proofs.drains.mask_of.Given as goal
 
 -- the stores that are left decide
