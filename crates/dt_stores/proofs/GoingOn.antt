@@ -7,7 +7,7 @@ use Rattle.dt_record.specs.declared.keys.Key.{Key}
 use Rattle.dt_record.specs.declared.accesses.OwnStore.{OwnStore}
 use Rattle.dt_record.specs.Actions.{Action, Stored, Drained, Fenced, Loaded, Atomic, Held, held_of, ww_fences, wr_fences, drains_on}
 use Rattle.dt_stores.specs.Kept.{Kept, without_past}
-use Rattle.dt_stores.specs.Standing.{StoresStand, stores_of, counted}
+use Rattle.dt_stores.specs.Standing.{StoresStand, stores_of}
 use Rattle.dt_stores.specs.Draining.{is_waiting_on}
 use Rattle.dt_stores.specs.Plans.{TakesFirst, is_among_first}
 use Rattle.dt_stores.specs.GoingOn.{StoresGoOn, AreDrainedBelow, DrainsStayBelow, is_quiet}

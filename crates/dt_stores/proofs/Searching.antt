@@ -3,7 +3,7 @@ use Rattle.std.specs.List.{list_all, take_while, position_or_len}
 use Rattle.std.specs.Option.{option_and_then}
 use Rattle.std.proofs.lemmas.List.{reverse-append, length-reverse, get_or-reverse, drop_more}
 use Rattle.std.proofs.lemmas.Option.{get_or_from_slice_get}
-use Rattle.std.proofs.lemmas.List.Folds.{list_all-append, find_at}
+use Rattle.std.proofs.lemmas.List.Folds.{find_at}
 use Rattle.std.proofs.lemmas.List.Sums.{take_while-cons}
 use Rattle.std.proofs.lemmas.Bool.{cases_Bool, cases_lt, and_parts, and_from, or_cases, not-true, eqb-true, eq-eqb, leb-true, ltb-true, le-ltb, lt-ltb, false≢true}
 use Rattle.dt_lists.proofs.Lists.{filter-all, list_all-reverse}
