@@ -49,7 +49,7 @@ numbered_is s test n is = by_last (last_fence test (fences_of s)) refl
     by_last None here = ap (numbered_key s.before) (is ∙ ap number_of here) ∙ sym here
     by_last (Some k) here =
         let found = last_at test (start_of s.hart s.wide) 0 s.before k here in
-        let place : k.seq ≡ found.place = ap (λ (q : Key). q.seq) found.is in
+        let place : k.seq ≡ found.place = ap (λ (q : Key). q.seq) found.is ∙ omega arith in
         let count : n ≡ suc found.place = is ∙ ap number_of here ∙ omega (arith, place) in
         ap (numbered_key s.before) count ∙ ap (option_map (key_of found.place)) found.there
         ∙ ap (λ (q : Key). Some q) (ap (λ m. key_of m found.own) (omega arith) ∙ sym found.is) ∙ sym here
@@ -63,8 +63,8 @@ its_hart hart rs i r its there = eqb-true r.hart hart (list_all-at (λ (q : Reco
 -- of two fences the one with the greater number has the greater key
 later_key : (hart : ℕ) (rs : List Record) → are_of hart rs ≡ true → are_rising rs ≡ true → (a b : Key) → IsKeyAt 0 rs a → IsKeyAt 0 rs b → a.seq < b.seq → KeyBelow a b
 later_key hart rs its rising a b one two less =
-    let first : a.seq ≡ one.place = ap (λ (q : Key). q.seq) one.is in
-    let second : b.seq ≡ two.place = ap (λ (q : Key). q.seq) two.is in
+    let first : a.seq ≡ one.place = ap (λ (q : Key). q.seq) one.is ∙ omega arith in
+    let second : b.seq ≡ two.place = ap (λ (q : Key). q.seq) two.is ∙ omega arith in
     let rise = rising_at rs one.place two.place one.own two.own rising one.there two.there (omega (arith, less, first, second)) in
     let stamps : a.stamp ≤ b.stamp = omega (arith, rise, ap (λ (q : Key). q.stamp) one.is, ap (λ (q : Key). q.stamp) two.is) in
     let harts : a.hart ≡ b.hart =

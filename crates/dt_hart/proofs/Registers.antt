@@ -1,4 +1,4 @@
-use Rattle.std.proofs.Common.{ℕ, ◌≡◌, ◌<◌, ◌∷◌, ◌∙◌, Bool, List, [], length, drop, slice_index, refl, sym, ap, arith}
+use Rattle.std.proofs.Common.{ℕ, ◌≡◌, ◌<◌, ◌∷◌, ◌∙◌, Bool, List, [], length, drop, get_or, slice_index, refl, sym, ap, arith}
 use Rattle.dt_csr.specs.declared.state.Csrs.{Csrs}
 use Rattle.dt_csr.specs.Kept.{values_of}
 use Rattle.dt_record.specs.declared.states.HartState.{HartState}
@@ -67,3 +67,13 @@ one_state d a b its other wide hart =
     ∙ ap (λ (c : Csrs). arch_made b.pc b.x c a.mode a.hart) csrs
     ∙ ap (λ n. arch_made b.pc b.x b.csrs n a.hart) (sym its.mode ∙ other.mode)
     ∙ ap (λ n. arch_made b.pc b.x b.csrs b.mode n) hart ∙ arch_back b
+
+-- ---- three floors
+
+pub three_are : (xs : List ℕ) (a b c : ℕ) → length xs ≡ 3 → a ≡ get_or xs 0 0 → b ≡ get_or xs 1 0 → c ≡ get_or xs 2 0 → xs ≡ a ∷ b ∷ c ∷ []
+three_are [] a b c long first second third = absurd (omega (arith, long))
+three_are (x ∷ []) a b c long first second third = absurd (omega (arith, long))
+three_are (x ∷ y ∷ []) a b c long first second third = absurd (omega (arith, long))
+three_are (x ∷ y ∷ z ∷ []) a b c long first second third =
+    ap (λ n. n ∷ y ∷ z ∷ []) (sym first) ∙ ap (λ n. a ∷ n ∷ z ∷ []) (sym second) ∙ ap (λ n. a ∷ b ∷ n ∷ []) (sym third)
+three_are (x ∷ y ∷ z ∷ w ∷ ws) a b c long first second third = absurd (omega (arith, long))

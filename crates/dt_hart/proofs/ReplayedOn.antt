@@ -6,7 +6,7 @@ use Rattle.std.proofs.lemmas.List.{drop_more, length-append, take-append-drop, t
 use Rattle.std.proofs.lemmas.List.Elements.{All-nil}
 use Rattle.dt_lists.proofs.Lists.{slice_get-append_left, slice_get-end}
 use Rattle.dt_decode.specs.declared.instructions.Instr.{Instr}
-use Rattle.dt_decode.specs.declared.instructions.Instr.TheVariants.{Lui, Auipc, Jal, Jalr, Branch, Load as LoadOf, Store as StoreOf, AluImm, Alu, Fence, FenceI, Lr, Sc, Amo, Csr, Ecall, Ebreak, Sret, Mret, Wfi, SfenceVma}
+use Rattle.dt_decode.specs.declared.instructions.Instr.TheVariants.{Lui, Auipc, Jal, Jalr, Branch, Load as LoadOf, Store as StoreOf, AluImm, Alu, Fence as FenceOf, FenceI, Lr, Sc, Amo, Csr, Ecall, Ebreak, Sret, Mret, Wfi, SfenceVma}
 use Rattle.dt_record.specs.declared.keys.Key.{Key}
 use Rattle.dt_record.specs.declared.origins.Sources.{Sources}
 use Rattle.dt_record.specs.declared.records.Record.{Record}
@@ -70,7 +70,7 @@ by_instr a bits key (Some (LoadOf width signed rd rs1 imm)) = refl
 by_instr a bits key (Some (StoreOf width rs1 rs2 imm)) = refl
 by_instr a bits key (Some (AluImm op word rd rs1 imm)) = refl
 by_instr a bits key (Some (Alu op word rd rs1 rs2)) = refl
-by_instr a bits key (Some (Fence fm pred succ)) = refl
+by_instr a bits key (Some (FenceOf fm pred succ)) = refl
 by_instr a bits key (Some FenceI) = refl
 by_instr a bits key (Some (Lr width aq rl rd rs1)) = refl
 by_instr a bits key (Some (Sc width aq rl rd rs1 rs2)) = refl

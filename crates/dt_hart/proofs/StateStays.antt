@@ -26,8 +26,8 @@ use Rattle.dt_hart.proofs.SameHart.{hart_stays}
 -- No record changes whether a hart may use Sv48.
 
 if_same : (b : Bool) (c d e : Csrs) → c.wide ≡ e.wide → d.wide ≡ e.wide → (if b then c else d).wide ≡ e.wide
-if_same true c d e yes no = yes
-if_same false c d e yes no = no
+if_same true c d e first second = first
+if_same false c d e first second = second
 
 floor_same : (c : Csrs) (counter value : ℕ) → (with_floor c counter value).wide ≡ c.wide
 floor_same c counter value =

@@ -1,6 +1,6 @@
-ghost use Rattle.std.specs.Prelude.{◌≡◌, ◌≤◌, ◌∷◌, ℕ, Option, length, map, slice_index, IsTrue, IfOk};
+ghost use Rattle.std.specs.Prelude.{◌≡◌, ◌≤◌, [], ◌∷◌, ℕ, Option, length, map, slice_index, IsTrue, IfOk};
 ghost use Rattle.std.specs.List.{list_all};
-ghost use Rattle.dt_csr.specs.Kept.{AreKeptInBounds, values_of};
+ghost use Rattle.dt_csr.specs.Kept.{AreKeptInBounds, KeepsBounds, values_of};
 ghost use Rattle.dt_record.specs.declared.limits.TheConstants.{RECORD_LIMIT};
 ghost use Rattle.dt_record.specs.Lawful.{is_lawful};
 ghost use Rattle.dt_step.specs.State.{IsArch, IsReachable};
@@ -68,8 +68,9 @@ impl Hart {
         let arch = arch_from(number, wide, s);
         let replayed = replay(alloc, &arch, before)?;
         let windows = windows_from(alloc, replayed.instructions, s, before)?;
+        let local = local_of(alloc, s.known.items())?;
         let mut accesses = replayed.accesses;
-        accesses.local = local_of(alloc, s.known.items())?;
+        accesses.local = local;
         accesses.floor = s.order;
         Ok(Hart {
             arch,
@@ -100,6 +101,17 @@ fn all_registers(x: &[u64; 31]) -> [u64; 32]
     all
 }
 
+/// The registers of control and status with these values and these floors of cycle, instret and time.
+fn csrs_from(v: [u64; 17], floors: &[u64; 3], wide: bool) -> Csrs
+    requires { KeepsBounds v wide }
+    ensures values { values_of result ≡ v }
+    ensures floors { floors.now ≡ result.cycle_floor ∷ result.instret_floor ∷ result.time_floor ∷ [] }
+    ensures wide { result.wide ≡ wide }
+    ensures keeps { AreKeptInBounds result }
+{
+    Csrs::of_values(v, floors[0], floors[1], floors[2], wide)
+}
+
 /// The reference's state that the data say.
 fn arch_from(number: u8, wide: bool, s: &HartState) -> Arch
     requires { IsWithin wide s.now }
@@ -109,11 +121,10 @@ fn arch_from(number: u8, wide: bool, s: &HartState) -> Arch
     ensures hart { result.hart ≡ number }
     ensures wide { result.csrs.wide ≡ wide }
 {
-    let [cycle, instret, time] = s.floors;
     Arch {
         pc: s.pc,
         x: all_registers(&s.x),
-        csrs: Csrs::of_values(s.v, cycle, instret, time, wide),
+        csrs: csrs_from(s.v, &s.floors, wide),
         mode: s.mode,
         hart: number,
     }

@@ -3,7 +3,7 @@ use Rattle.std.proofs.lemmas.List.{length-take, take_all, take_more}
 use Rattle.std.proofs.lemmas.Bool.{eqb-true}
 use Rattle.dt_lists.proofs.Lists.{list_all-at}
 use Rattle.dt_record.specs.declared.records.Record.{Record}
-use Rattle.dt_record.specs.declared.records.Body.TheVariants.{Beat}
+use Rattle.dt_record.specs.declared.records.Body.TheVariants.{Commit}
 use Rattle.dt_record.specs.Lawful.{is_lawful}
 use Rattle.dt_hart.specs.OwnWrites.{are_rising}
 use Rattle.dt_hart.specs.Replaying.{IsReplayed}
@@ -11,7 +11,7 @@ use Rattle.dt_hart.proofs.ReplayedOn.{counted_next, replayed_on, split_at}
 use Rattle.dt_hart.proofs.replays.replay.Goals as goal
 
 abbrev none : Record
-none = record { stamp = 0; hart = 0; body = Beat }
+none = record { stamp = 0; hart = 0; body = Commit (record { pc = 0; bits = 0; value = 0 }) }
 
 pub take-requires-clause-lawful : goal.take-requires-clause-lawful
 take-requires-clause-lawful c = list_all-at is_lawful c.args.before.now c.loop-event.event-index none c.requires.lawful c.loop-event-test.true
