@@ -1,5 +1,5 @@
 -- What a worker gives back, and what it promises of it. All of it is this project's own.
-use Rattle.std.specs.Prelude.{◌≡◌, ◌≢◌, ◌<◌, ◌||◌, not, ℕ, Bool, true, List, length, slice_index_or, All, IsTrue}
+use Rattle.std.specs.Prelude.{◌≡◌, ◌≢◌, ◌<◌, ◌||◌, not, ℕ, Bool, true, List, [], length, slice_index_or, All, IsTrue}
 use mathlib.Core.List.{IsPrefix}
 use Rattle.dt_queue.specs.declared.ends.Take.{Take}
 use Rattle.dt_queue.specs.Queue.{take_queue, taken}

@@ -12,8 +12,8 @@ pub loop-lane-preserved : goal.loop-lane-preserved
 loop-lane-preserved c =
     let was = c.loop-lane.invariant in
     let steps = c.in-Some.ensures.steps.0 in
-    let take = c.end_one.result.0 in
-    let end = c.end_one.result.1 in (
+    let take = c.end_one-take.result.0 in
+    let end = c.end_one-take.result.1 in (
       tt,
       tt,
       grind (arith, common_steps),
@@ -21,13 +21,13 @@ loop-lane-preserved c =
       grind (arith, common_steps),
       λ takes ends are.
           let given : AreLaneEnds (into_iter_items c.loop-lane.lane-iterator) (take ∷ takes) (end ∷ ends) =
-          subst (λ (ls : List LaneView). AreLaneEnds ls (take ∷ takes) (end ∷ ends)) (sym steps) (c.end_one.ensures, are) in
-          subst (λ (ts : List (ℕ × Take)). AreLaneEnds c.args.lanes.items ts (c.push_reserved-2.new.ends.items ++ ends))
+          subst (λ (ls : List LaneView). AreLaneEnds ls (take ∷ takes) (end ∷ ends)) (sym steps) (c.end_one-take.ensures, are) in
+          subst (λ (ts : List (ℕ × Take)). AreLaneEnds c.args.lanes.items ts (c.push_reserved-in-loop-lane.new.self.items ++ ends))
           (sym (append_assoc c.loop-lane.takes.items (take ∷ []) takes)
           ∙ ap (λ (ts : List (ℕ × Take)). ts ++ takes) (sym c.push_reserved.ensures.items))
           (subst (λ (es : List HartEnd). AreLaneEnds c.args.lanes.items (c.loop-lane.takes.items ++ take ∷ takes) es)
           (sym (append_assoc c.loop-lane.ends.items (end ∷ []) ends)
-          ∙ ap (λ (es : List HartEnd). es ++ ends) (sym c.push_reserved-2.ensures.items))
+          ∙ ap (λ (es : List HartEnd). es ++ ends) (sym c.push_reserved-in-loop-lane.ensures.items))
           (was.5 (take ∷ takes) (end ∷ ends) given)),
     )
 
