@@ -62,7 +62,8 @@ fn planned(sight: &Sight<'_>, key: Key, st: Started, said: Said) -> Result<Passe
     requires within { sight.now.last ≤ length sight.now.moments.now.writes }
     requires aligned { AccessesAligned st.plan }
     requires due { due_tag st.plan ≡ 7 }
-    ensures finds { OnGrounds sight.now.hart.now sight.now.moments.now sight.now.last key (λ g. AtomicBy g key st.stale st.plan said result) }
+    ensures finds { OnGrounds sight.now.hart.now sight.now.moments.now sight.now.last key (λ g.
+        AtomicBy g key st.stale st.plan said result) }
     ensures read { IfOk result (λ passed. OnPast sight.now.hart.now sight.now.moments.now key (λ actions moments.
         IsAccessedBy sight.now.moments.now.writes st.plan key said.paddr said.width passed.sources)) }
 {

@@ -119,7 +119,8 @@ fn stored(sight: &Sight<'_>, st: Started, paddr: u64, value: u64) -> Result<Pass
     requires aligned { AccessesAligned st.plan }
     requires due { due_tag st.plan ≡ 6 }
     ensures finds { (actions : List Action) (moments : ℕ → ℕ)
-        → result ≡ stored (grounds_kept sight.now.hart.now sight.now.moments.now sight.now.last actions moments) st.stale st.plan paddr value }
+        → result ≡ stored (grounds_kept sight.now.hart.now sight.now.moments.now sight.now.last actions moments)
+        st.stale st.plan paddr value }
     ensures placed { OnOk result (IsPlacedBy st.plan paddr) }
 {
     match st.plan {
@@ -148,7 +149,8 @@ pub fn store(
     requires within { sight.now.last ≤ length sight.now.moments.now.writes }
     requires instruction { IsTrue (is_instruction bits) }
     ensures finds { (actions : List Action) (moments : ℕ → ℕ)
-        → result ≡ store_finding (grounds_kept sight.now.hart.now sight.now.moments.now sight.now.last actions moments) pc bits paddr value }
+        → result ≡ store_finding (grounds_kept sight.now.hart.now sight.now.moments.now sight.now.last actions moments)
+        pc bits paddr value }
     ensures can_retire { OnOk result (CanRetire sight.now.hart.now.arch bits) }
     ensures placed { OnOk result (IsTrue (is_placed_at bits paddr)) }
 {

@@ -99,7 +99,8 @@ fn loaded(
     requires aligned { AccessesAligned st.plan }
     requires due { due_tag st.plan ≡ 5 }
     requires early { at ≤ key.stamp }
-    ensures finds { OnGrounds sight.now.hart.now sight.now.moments.now sight.now.last key (λ g. LoadsBy g key st.stale st.plan value at paddr result) }
+    ensures finds { OnGrounds sight.now.hart.now sight.now.moments.now sight.now.last key (λ g.
+        LoadsBy g key st.stale st.plan value at paddr result) }
     ensures placed { OnOk result (IsPlacedBy st.plan paddr) }
     ensures read { IfOk result (λ x. OnPast sight.now.hart.now sight.now.moments.now key (λ actions moments.
         IsReadBy sight.now.moments.now.image sight.now.moments.now.writes actions moments st.plan key value at paddr x.sources)) }
@@ -134,7 +135,8 @@ pub fn load(
     requires within { sight.now.last ≤ length sight.now.moments.now.writes }
     requires instruction { IsTrue (is_instruction retire.bits) }
     requires early { at ≤ key.stamp }
-    ensures finds { OnGrounds sight.now.hart.now sight.now.moments.now sight.now.last key (λ g. IsLoadFinding g key retire at paddr result) }
+    ensures finds { OnGrounds sight.now.hart.now sight.now.moments.now sight.now.last key (λ g.
+        IsLoadFinding g key retire at paddr result) }
     ensures can_retire { OnOk result (CanRetire sight.now.hart.now.arch retire.bits) }
     ensures placed { OnOk result (IsTrue (is_placed_at retire.bits paddr)) }
     ensures read { IfOk result (λ x. OnPast sight.now.hart.now sight.now.moments.now key (λ actions moments.
