@@ -11,7 +11,7 @@ ghost use Rattle.dt_judge.specs.Keeping.{IsAccessedBy, IsReadIn, OnGrounds, OnPa
 ghost use Rattle.dt_judge.specs.Kinds.{Accesses, AtomicBy, IsAtomicFinding};
 
 use crate::kinds::{of_another_kind, with_p};
-use crate::spans::{accessed, started};
+use crate::spans::{Sight, accessed, started};
 use dt_access::atomic_access;
 use dt_atomics::{AtomicAccess, allowed_atomics_are_exact};
 use dt_checks::Started;
@@ -58,20 +58,14 @@ fn at_address(h: &Hart, m: &Moments, p: bool, key: Key, x: AtomicAccess) -> Resu
 }
 
 /// An atomic after the checks that its instruction begins with.
-fn planned(
-    h: &Hart,
-    m: &Moments,
-    last: u32,
-    key: Key,
-    st: Started,
-    said: Said,
-) -> Result<Passed, Misfit>
-    requires within { last ≤ length m.now.writes }
+fn planned(sight: &Sight<'_>, key: Key, st: Started, said: Said) -> Result<Passed, Misfit>
+    requires within { sight.now.last ≤ length sight.now.moments.now.writes }
     requires aligned { AccessesAligned st.plan }
     requires due { due_tag st.plan ≡ 7 }
-    ensures finds { OnGrounds h.now m.now last key (λ g. AtomicBy g key st.stale st.plan said result) }
-    ensures read { IfOk result (λ passed. OnPast h.now m.now key (λ actions moments.
-        IsAccessedBy m.now.writes st.plan key said.paddr said.width passed.sources)) }
+    ensures finds { OnGrounds sight.now.hart.now sight.now.moments.now sight.now.last key (λ g.
+        AtomicBy g key st.stale st.plan said result) }
+    ensures read { IfOk result (λ passed. OnPast sight.now.hart.now sight.now.moments.now key (λ actions moments.
+        IsAccessedBy sight.now.moments.now.writes st.plan key said.paddr said.width passed.sources)) }
 {
     match st.plan {
         Planned::NeedsAtomic {
@@ -82,7 +76,7 @@ fn planned(
             operand,
             ..
         } => {
-            let older = accessed(h, m, last, atomic_access(op), true, va, said.paddr)?;
+            let older = accessed(sight, atomic_access(op), true, va, said.paddr)?;
             let x = AtomicAccess {
                 op,
                 width,
@@ -94,28 +88,22 @@ fn planned(
                 wrote: said.wrote,
                 new: said.new,
             };
-            at_address(h, m, st.stale || older, key, x)
+            at_address(sight.hart, sight.moments, st.stale || older, key, x)
         }
         _ => of_another_kind(7),
     }
 }
 
-pub fn atomic(
-    h: &Hart,
-    m: &Moments,
-    last: u32,
-    key: Key,
-    retire: Retire,
-    said: Said,
-) -> Result<Passed, Misfit>
-    requires within { last ≤ length m.now.writes }
+pub fn atomic(sight: &Sight<'_>, key: Key, retire: Retire, said: Said) -> Result<Passed, Misfit>
+    requires within { sight.now.last ≤ length sight.now.moments.now.writes }
     requires instruction { IsTrue (is_instruction retire.bits) }
-    ensures finds { OnGrounds h.now m.now last key (λ g. IsAtomicFinding g key retire.pc retire.bits said result) }
-    ensures can_retire { OnOk result (CanRetire h.now.arch retire.bits) }
-    ensures read { IfOk result (λ passed. OnPast h.now m.now key (λ actions moments.
-        IsReadIn m.now.image m.now.writes actions moments
+    ensures finds { OnGrounds sight.now.hart.now sight.now.moments.now sight.now.last key (λ g.
+        IsAtomicFinding g key retire.pc retire.bits said result) }
+    ensures can_retire { OnOk result (CanRetire sight.now.hart.now.arch retire.bits) }
+    ensures read { IfOk result (λ passed. OnPast sight.now.hart.now sight.now.moments.now key (λ actions moments.
+        IsReadIn sight.now.moments.now.image sight.now.moments.now.writes actions moments
         (body_action key (body.Atomic retire said.paddr said.width said.wrote said.new)) passed.sources)) }
 {
-    let st = started(h, m, last, retire.pc, retire.bits, 7)?;
-    planned(h, m, last, key, st, said)
+    let st = started(sight, retire.pc, retire.bits, 7)?;
+    planned(sight, key, st, said)
 }

@@ -10,10 +10,12 @@ ghost use Rattle.dt_judge.specs.Kinds.{seen_by};
 use crate::atomics::{atomic, said_as};
 use crate::kinds::{PLAIN, commit, drain, fine, refill, store, trap};
 use crate::loads::load;
+use crate::spans::Sight;
 use dt_commits::{shows_csrs, shows_registers};
 use dt_hart::Hart;
 use dt_record::{Body, Key, Record};
 use dt_rules::{Misfit, Passed};
+use dt_traps::TrapEvent;
 use dt_versions::{Moments, Span};
 
 /// What the judgement finds of the hart's record with this key, which may see these moments.
@@ -34,24 +36,36 @@ pub fn finding(
     ensures found { IfOk result (λ x. OnPast h.now m.now key (λ actions moments.
         WasFound m.now.image m.now.writes actions moments key event.now.body x.sources)) }
 {
-    let last = seen.last;
+    let sight = Sight {
+        hart: h,
+        moments: m,
+        last: seen.last,
+    };
     match &event.body {
-        Body::Commit { retire } => commit(h, m, last, key, *retire),
+        Body::Commit { retire } => commit(&sight, key, *retire),
         Body::Trap {
             pc,
             bits,
             cause,
             tval,
-        } => trap(h, m, last, *pc, *bits, *cause, *tval),
+        } => {
+            let event = TrapEvent {
+                pc: *pc,
+                bits: *bits,
+                cause: *cause,
+                tval: *tval,
+            };
+            trap(&sight, event)
+        }
         Body::Regs { pc, x } => fine(shows_registers(h.arch(), *pc, x)),
         Body::Csrs { mode, v } => fine(shows_csrs(h.arch(), *mode, v)),
-        Body::Load { retire, at, paddr } => load(h, m, last, key, *retire, *at, *paddr),
+        Body::Load { retire, at, paddr } => load(&sight, key, *retire, *at, *paddr),
         Body::Store {
             pc,
             bits,
             paddr,
             value,
-        } => store(h, m, last, *pc, *bits, *paddr, *value),
+        } => store(&sight, *pc, *bits, *paddr, *value),
         Body::Atomic {
             retire,
             paddr,
@@ -60,7 +74,7 @@ pub fn finding(
             new,
         } => {
             let said = said_as(retire.value, *paddr, *width, *wrote, *new);
-            atomic(h, m, last, key, *retire, said)
+            atomic(&sight, key, *retire, said)
         }
         Body::Drain {
             line,

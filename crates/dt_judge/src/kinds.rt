@@ -15,7 +15,7 @@ ghost use Rattle.dt_traps.specs.Traps.{trap_check};
 ghost use Rattle.dt_judge.specs.Keeping.{IsPlacedBy, grounds_kept, trap_kept};
 ghost use Rattle.dt_judge.specs.Kinds.{commit_finding, fine, of_another_kind, store_finding, stored, trap_finding, with_p};
 
-use crate::spans::{accessed, started, trap_spans};
+use crate::spans::{Sight, accessed, started, trap_spans};
 use dt_checks::Started;
 use dt_commits::{commit_value, undrained};
 use dt_drains::{drains, store_data};
@@ -24,6 +24,7 @@ use dt_record::{Key, Letters, Retire};
 use dt_rules::{Misfit, NO_LETTERS, NO_NUMBER, NO_SOURCES, Passed, Reason};
 use dt_step::Planned;
 use dt_stores::DrainAnswer;
+use dt_traps::TrapEvent;
 use dt_versions::{Moments, Span};
 use dt_walk::Access;
 
@@ -66,16 +67,16 @@ pub fn with_p(p: bool, found: Result<Passed, Misfit>) -> Result<Passed, Misfit>
     }
 }
 
-pub fn commit(h: &Hart, m: &Moments, last: u32, key: Key, retire: Retire) -> Result<Passed, Misfit>
-    requires within { last ≤ length m.now.writes }
+pub fn commit(sight: &Sight<'_>, key: Key, retire: Retire) -> Result<Passed, Misfit>
+    requires within { sight.now.last ≤ length sight.now.moments.now.writes }
     requires instruction { IsTrue (is_instruction retire.bits) }
-    ensures finds { (actions : List Action) (moments : ℕ → ℕ) → StoresStand h.now.stores actions
-        → result ≡ commit_finding (grounds_kept h.now m.now last actions moments) key retire }
-    ensures can_retire { OnOk result (CanRetire h.now.arch retire.bits) }
+    ensures finds { (actions : List Action) (moments : ℕ → ℕ) → StoresStand sight.now.hart.now.stores actions
+        → result ≡ commit_finding (grounds_kept sight.now.hart.now sight.now.moments.now sight.now.last actions moments) key retire }
+    ensures can_retire { OnOk result (CanRetire sight.now.hart.now.arch retire.bits) }
 {
-    let st = started(h, m, last, retire.pc, retire.bits, 1)?;
-    undrained(h.stores(), st.plan, key.stamp, key.seq)?;
-    let adopted = commit_value(h.arch(), st.plan, retire.value)?;
+    let st = started(sight, retire.pc, retire.bits, 1)?;
+    undrained(sight.hart.stores(), st.plan, key.stamp, key.seq)?;
+    let adopted = commit_value(sight.hart.arch(), st.plan, retire.value)?;
     Ok(Passed {
         letters: Letters {
             p: st.stale,
@@ -87,38 +88,25 @@ pub fn commit(h: &Hart, m: &Moments, last: u32, key: Key, retire: Retire) -> Res
 }
 
 /// The checks of a trap, where it may see no later moment than this last one.
-fn trapped(
-    h: &Hart,
-    m: &Moments,
-    last: u32,
-    pc: u64,
-    bits: u32,
-    cause: u64,
-    tval: u64,
-) -> Result<Letters, Misfit>
-    requires within { last ≤ length m.now.writes }
-    requires bits { IsTrue (are_trap_bits bits cause) }
-    ensures { result ≡ trap_check m.now.image m.now.writes (trap_kept h.now m.now.writes last bits) h.now.arch pc bits cause tval }
+fn trapped(sight: &Sight<'_>, event: TrapEvent) -> Result<Letters, Misfit>
+    requires within { sight.now.last ≤ length sight.now.moments.now.writes }
+    requires bits { IsTrue (are_trap_bits event.bits event.cause) }
+    ensures { result ≡ trap_check sight.now.moments.now.image sight.now.moments.now.writes
+        (trap_kept sight.now.hart.now sight.now.moments.now.writes sight.now.last event.bits)
+        sight.now.hart.now.arch event.pc event.bits event.cause event.tval }
 {
-    let spans = trap_spans(h, m, last, bits);
-    dt_traps::trap(m, spans, h.arch(), pc, bits, cause, tval)
+    let spans = trap_spans(sight, event.bits);
+    dt_traps::trap(sight.moments, spans, sight.hart.arch(), event)
 }
 
-pub fn trap(
-    h: &Hart,
-    m: &Moments,
-    last: u32,
-    pc: u64,
-    bits: u32,
-    cause: u64,
-    tval: u64,
-) -> Result<Passed, Misfit>
-    requires within { last ≤ length m.now.writes }
-    requires bits { IsTrue (are_trap_bits bits cause) }
+pub fn trap(sight: &Sight<'_>, event: TrapEvent) -> Result<Passed, Misfit>
+    requires within { sight.now.last ≤ length sight.now.moments.now.writes }
+    requires bits { IsTrue (are_trap_bits event.bits event.cause) }
     ensures { (actions : List Action) (moments : ℕ → ℕ)
-        → result ≡ trap_finding (grounds_kept h.now m.now last actions moments) pc bits cause tval }
+        → result ≡ trap_finding (grounds_kept sight.now.hart.now sight.now.moments.now sight.now.last actions moments)
+        event.pc event.bits event.cause event.tval }
 {
-    let letters = trapped(h, m, last, pc, bits, cause, tval)?;
+    let letters = trapped(sight, event)?;
     Ok(Passed {
         letters,
         sources: NO_SOURCES,
@@ -126,24 +114,18 @@ pub fn trap(
 }
 
 /// A store after the checks that its instruction begins with.
-fn stored(
-    h: &Hart,
-    m: &Moments,
-    last: u32,
-    st: Started,
-    paddr: u64,
-    value: u64,
-) -> Result<Passed, Misfit>
-    requires within { last ≤ length m.now.writes }
+fn stored(sight: &Sight<'_>, st: Started, paddr: u64, value: u64) -> Result<Passed, Misfit>
+    requires within { sight.now.last ≤ length sight.now.moments.now.writes }
     requires aligned { AccessesAligned st.plan }
     requires due { due_tag st.plan ≡ 6 }
     ensures finds { (actions : List Action) (moments : ℕ → ℕ)
-        → result ≡ stored (grounds_kept h.now m.now last actions moments) st.stale st.plan paddr value }
+        → result ≡ stored (grounds_kept sight.now.hart.now sight.now.moments.now sight.now.last actions moments)
+        st.stale st.plan paddr value }
     ensures placed { OnOk result (IsPlacedBy st.plan paddr) }
 {
     match st.plan {
         Planned::NeedsStore { va, value: due, .. } => {
-            let older = accessed(h, m, last, Access::Store, false, va, paddr)?;
+            let older = accessed(sight, Access::Store, false, va, paddr)?;
             store_data(due, value)?;
             Ok(Passed {
                 letters: Letters {
@@ -158,23 +140,22 @@ fn stored(
 }
 
 pub fn store(
-    h: &Hart,
-    m: &Moments,
-    last: u32,
+    sight: &Sight<'_>,
     pc: u64,
     bits: u32,
     paddr: u64,
     value: u64,
 ) -> Result<Passed, Misfit>
-    requires within { last ≤ length m.now.writes }
+    requires within { sight.now.last ≤ length sight.now.moments.now.writes }
     requires instruction { IsTrue (is_instruction bits) }
     ensures finds { (actions : List Action) (moments : ℕ → ℕ)
-        → result ≡ store_finding (grounds_kept h.now m.now last actions moments) pc bits paddr value }
-    ensures can_retire { OnOk result (CanRetire h.now.arch bits) }
+        → result ≡ store_finding (grounds_kept sight.now.hart.now sight.now.moments.now sight.now.last actions moments)
+        pc bits paddr value }
+    ensures can_retire { OnOk result (CanRetire sight.now.hart.now.arch bits) }
     ensures placed { OnOk result (IsTrue (is_placed_at bits paddr)) }
 {
-    let st = started(h, m, last, pc, bits, 6)?;
-    stored(h, m, last, st, paddr, value)
+    let st = started(sight, pc, bits, 6)?;
+    stored(sight, st, paddr, value)
 }
 
 pub fn drain(

@@ -17,6 +17,15 @@ use dt_traps::{TrapSpans, access_address};
 use dt_versions::{Moments, Span};
 use dt_walk::Access;
 
+/// What a record of a hart is judged by: what is kept of the hart, the memory over time, and the last
+/// moment that the record may see.
+#[derive(Clone, Copy)]
+pub struct Sight<'a> {
+    pub hart: &'a Hart,
+    pub moments: &'a Moments,
+    pub last: u32,
+}
+
 /// The moments that a record with this key may see at its stamp.
 pub fn seen_by(m: &Moments, key: Key) -> Span
     ensures value { result ≡ seen_by m.now.writes key }
@@ -36,76 +45,76 @@ fn first_since(m: &Moments, fence: Option<Key>) -> u32
 }
 
 /// The moments up to a last one whose translation of an address the hart may use.
-fn window(h: &Hart, m: &Moments, last: u32, va: u64) -> Span
-    ensures { result ≡ window_kept h.now m.now.writes last va }
+fn window(sight: &Sight<'_>, va: u64) -> Span
+    ensures { result ≡ window_kept sight.now.hart.now sight.now.moments.now.writes sight.now.last va }
 {
     Span {
-        first: first_since(m, h.windows().page(va)),
-        last,
+        first: first_since(sight.moments, sight.hart.windows().page(va)),
+        last: sight.last,
     }
 }
 
 /// The moments up to a last one for the halves of the instruction at the hart's pc.
-fn fetch_spans(h: &Hart, m: &Moments, last: u32) -> FetchSpans
-    ensures { result ≡ fetch_kept h.now m.now.writes last }
+fn fetch_spans(sight: &Sight<'_>) -> FetchSpans
+    ensures { result ≡ fetch_kept sight.now.hart.now sight.now.moments.now.writes sight.now.last }
 {
-    let pc = h.arch().pc;
+    let pc = sight.hart.arch().pc;
     FetchSpans {
-        first: window(h, m, last, pc),
-        second: window(h, m, last, pc.wrapping_add(2)),
+        first: window(sight, pc),
+        second: window(sight, pc.wrapping_add(2)),
         since: Span {
-            first: first_since(m, h.windows().instructions()),
-            last,
+            first: first_since(sight.moments, sight.hart.windows().instructions()),
+            last: sight.last,
         },
     }
 }
 
 /// The moments up to a last one for a trap of the instruction with these bits: of its fetch, and of
 /// the page that it accesses, or of any page where it accesses none.
-pub fn trap_spans(h: &Hart, m: &Moments, last: u32, bits: u32) -> TrapSpans
-    ensures { result ≡ trap_kept h.now m.now.writes last bits }
+pub fn trap_spans(sight: &Sight<'_>, bits: u32) -> TrapSpans
+    ensures { result ≡ trap_kept sight.now.hart.now sight.now.moments.now.writes sight.now.last bits }
 {
-    let va = access_address(h.arch(), bits).unwrap_or(0);
+    let va = access_address(sight.hart.arch(), bits).unwrap_or(0);
     TrapSpans {
-        fetch: fetch_spans(h, m, last),
-        access: window(h, m, last, va),
+        fetch: fetch_spans(sight),
+        access: window(sight, va),
     }
 }
 
 /// The checks that the record of an instruction begins with, where it may see no later moment than
 /// this last one.
-pub fn started(
-    h: &Hart,
-    m: &Moments,
-    last: u32,
-    pc: u64,
-    bits: u32,
-    tag: u8,
-) -> Result<Started, Misfit>
-    requires within { last ≤ length m.now.writes }
+pub fn started(sight: &Sight<'_>, pc: u64, bits: u32, tag: u8) -> Result<Started, Misfit>
+    requires within { sight.now.last ≤ length sight.now.moments.now.writes }
     requires instruction { IsTrue (is_instruction bits) }
-    ensures value { result ≡ start_check m.now.image m.now.writes (fetch_kept h.now m.now.writes last) h.now.arch pc bits tag }
-    ensures retired { IfOk result (λ st. IsRetired h.now.arch bits tag st.plan) }
+    ensures value { result ≡ start_check sight.now.moments.now.image sight.now.moments.now.writes
+        (fetch_kept sight.now.hart.now sight.now.moments.now.writes sight.now.last) sight.now.hart.now.arch pc bits tag }
+    ensures retired { IfOk result (λ st. IsRetired sight.now.hart.now.arch bits tag st.plan) }
 {
-    start(m, fetch_spans(h, m, last), h.arch(), pc, bits, tag)
+    start(
+        sight.moments,
+        fetch_spans(sight),
+        sight.hart.arch(),
+        pc,
+        bits,
+        tag,
+    )
 }
 
 /// Whether an access may have reached the physical address only by an older translation, where it
 /// may see no later moment than this last one. `ram_only` is for atomics.
 pub fn accessed(
-    h: &Hart,
-    m: &Moments,
-    last: u32,
+    sight: &Sight<'_>,
     access: Access,
     ram_only: bool,
     va: u64,
     paddr: u64,
 ) -> Result<bool, Misfit>
-    requires within { last ≤ length m.now.writes }
-    ensures value { result ≡ address_check m.now.image m.now.writes (window_kept h.now m.now.writes last va)
-        (walk_args h.now.arch access va) ram_only paddr }
+    requires within { sight.now.last ≤ length sight.now.moments.now.writes }
+    ensures value { result ≡ address_check sight.now.moments.now.image sight.now.moments.now.writes
+        (window_kept sight.now.hart.now sight.now.moments.now.writes sight.now.last va)
+        (walk_args sight.now.hart.now.arch access va) ram_only paddr }
     ensures place { OnOk result (IsPlaceOf va ram_only paddr) }
 {
-    let args = walk_args(h.arch(), access, va);
-    address(m, window(h, m, last, va), args, ram_only, paddr)
+    let args = walk_args(sight.hart.arch(), access, va);
+    address(sight.moments, window(sight, va), args, ram_only, paddr)
 }

@@ -12,4 +12,4 @@ mod traps;
 
 pub use instructions::access_address;
 pub use laws::{allowed_traps_are_exact, first_writes_decide_traps};
-pub use traps::{TrapSpans, trap};
+pub use traps::{TrapEvent, TrapSpans, trap};

@@ -3,7 +3,7 @@ ghost use Rattle.dt_csr.specs.Kept.{NamesMode};
 ghost use Rattle.dt_step.specs.State.{IsArch};
 ghost use Rattle.dt_traps.specs.Traps.{SpansEndWithin};
 
-use crate::{TrapSpans, access_address, trap};
+use crate::{TrapEvent, TrapSpans, access_address, trap};
 use dt_checks::FetchSpans;
 use dt_csr::{MACHINE, SUPERVISOR};
 use dt_record::{Image, Key, Write};
@@ -13,15 +13,6 @@ use dt_versions::{Moments, Span};
 use std::alloc::{AllocError, Global};
 use std::process::Abort;
 use std::test::Fail;
-
-/// What a record of a trap says.
-#[derive(Clone, Copy, Debug)]
-struct TrapEvent {
-    pc: u64,
-    bits: u32,
-    cause: u64,
-    tval: u64,
-}
 
 fn event(pc: u64, bits: u32, cause: u64, tval: u64) -> TrapEvent {
     TrapEvent {
@@ -106,7 +97,7 @@ fn judged(
         access: span(access),
     };
     assert!(rt; e.bits % 4 == 3 || e.bits < 0x1_0000 || e.cause == 1 || e.cause == 12);
-    trap(moments, spans, a, e.pc, e.bits, e.cause, e.tval)
+    trap(moments, spans, a, e)
 }
 
 fn refused(reason: Reason, expected: u64, found: u64) -> Result<Letters, Misfit> {

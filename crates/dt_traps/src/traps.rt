@@ -24,6 +24,15 @@ pub struct TrapSpans {
     pub access: Span,
 }
 
+/// What a record of a trap says.
+#[derive(Clone, Copy, Debug, PartialEq, Eq)]
+pub struct TrapEvent {
+    pub pc: u64,
+    pub bits: u32,
+    pub cause: u64,
+    pub tval: u64,
+}
+
 /// The lowest cause of an interrupt.
 const FIRST_INTERRUPT: u64 = 1 << 63;
 
@@ -221,28 +230,25 @@ fn entry(cause: u64, tval: u64, found: Raised) -> Result<Letters, Misfit>
 
 /// Whether a hart in this state may enter the trap, and the letters of the rules that allow it: I
 /// for an interrupt, P where a fetch or a translation is of an older moment than the last of its
-/// span, and Z where tval is 0 in place of another value. The four numbers are those of a lawful
-/// record.
+/// span, and Z where tval is 0 in place of another value. The event is that of a lawful record.
 ///
 /// The first misfit counts: of Pc; of an interrupt Interrupt, which expects the enabled codes as
 /// bits of a mask; of an exception Fetch, with the numbers of `fetched` in dt_checks, and Cause,
 /// which expects the instruction's own cause where it has one, or else the one at the last moment
 /// of the window, or `NO_NUMBER` where there is none; and Tval. Found is what the record says.
-pub fn trap(
-    m: &Moments,
-    spans: TrapSpans,
-    a: &Arch,
-    pc: u64,
-    bits: u32,
-    cause: u64,
-    tval: u64,
-) -> Result<Letters, Misfit>
+pub fn trap(m: &Moments, spans: TrapSpans, a: &Arch, event: TrapEvent) -> Result<Letters, Misfit>
     requires spans { SpansEndWithin spans (length m.now.writes) }
     requires arch { IsArch a.now }
     requires even { a.now.pc % 2 ≡ 0 }
-    requires bits { IsTrue (are_trap_bits bits cause) }
-    ensures { result ≡ trap_check m.now.image m.now.writes spans a.now pc bits cause tval }
+    requires bits { IsTrue (are_trap_bits event.bits event.cause) }
+    ensures { result ≡ trap_check m.now.image m.now.writes spans a.now event.pc event.bits event.cause event.tval }
 {
+    let TrapEvent {
+        pc,
+        bits,
+        cause,
+        tval,
+    } = event;
     if pc != a.pc {
         return Err(Misfit {
             reason: Reason::Pc,

@@ -9,5 +9,5 @@ pub returns : goal.returns
 returns c =
     let address = c.access_address.ensures ∙ ap (λ (a : Arch). access_address a c.args.bits) c.arch.ensures.value in
     let va = c.unwrap_or-va.ensures ∙ ap (λ (o : Option ℕ). unwrap_or o 0) address in
-    let access = c.window.ensures ∙ ap (window_kept c.args.h.now c.args.m.now.writes c.args.last) va in
+    let access = c.window.ensures ∙ ap (window_kept c.args.sight.now.hart.now c.args.sight.now.moments.now.writes c.args.sight.now.last) va in
     λ i. record { fetch = c.fetch_spans.ensures i; access = access i }
