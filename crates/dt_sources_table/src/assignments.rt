@@ -64,8 +64,8 @@ fn is_load_fit(
 ) -> bool {
     let two = ask.width == 2;
     is_visible(writes, ask.key, ask.at, k)
-        && is_byte_fit(before, writes, moments, k, ask, ask.addr, ask.raw % 256)
-        && (!two || is_byte_fit(before, writes, moments, k, ask, 0x8000_0001, ask.raw / 256))
+        && is_byte_fit(before, writes, moments, k, ask, false)
+        && (!two || is_byte_fit(before, writes, moments, k, ask, true))
 }
 
 fn is_visible(writes: &[Write], key: Key, at: u64, k: usize) -> bool {
@@ -80,15 +80,20 @@ fn is_visible(writes: &[Write], key: Key, at: u64, k: usize) -> bool {
     true
 }
 
+/// Whether the first byte of a load fits, or its second one.
 fn is_byte_fit(
     before: &[Event],
     writes: &[Write],
     moments: &Moments,
     k: usize,
     ask: LoadAsk,
-    addr: u64,
-    wanted: u64,
+    second: bool,
 ) -> bool {
+    let (addr, wanted) = if second {
+        (0x8000_0001, ask.raw / 256)
+    } else {
+        (ask.addr, ask.raw % 256)
+    };
     let (origin, byte) = source(before, writes, k, ask.at, addr);
     let own = standing(before, origin, addr);
     byte == wanted
