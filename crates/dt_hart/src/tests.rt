@@ -1,4 +1,6 @@
-ghost use Rattle.std.specs.Prelude.{OnOk};
+ghost use Rattle.std.specs.Prelude.{◌≡◌, IsTrue, OnOk};
+ghost use Rattle.std.specs.List.{list_all};
+ghost use Rattle.dt_record.specs.Lawful.{is_lawful};
 ghost use Rattle.dt_hart.specs.Marks.{KeepsMarks};
 
 use crate::{Hart, is_placed, known_at_next, marks_go_on};
@@ -244,12 +246,21 @@ fn a_fence_counts_again_after_an_undo(rt: HostRuntime) -> Result<(), Fail> {
 }
 
 /// A record of hart 1.
-fn own(stamp: u64, body: Body) -> Record {
+fn own(stamp: u64, body: Body) -> Record
+    ensures hart { result.hart ≡ 1 }
+    ensures stamp { result.stamp ≡ stamp }
+{
     Record {
         stamp,
         hart: 1,
         body,
     }
+}
+
+fn are_lawful(events: &[Record]) -> bool
+    ensures { IsTrue result → IsTrue (list_all is_lawful events.now) }
+{
+    events.iter().all(|event| lawful(event))
 }
 
 /// Fences of page 0, of all pages, of page 0 and page 1, a load and a write of the line.
@@ -315,7 +326,8 @@ fn a_hart_of_its_data(rt: HostRuntime) -> Result<(), Fail> {
         )?;
     }
     let d = hart.state(rt.alloc())?;
-    assert!(rt; d.seq == 6 && events.iter().all(lawful));
+    assert!(rt; d.seq == 6 && are_lawful(&events));
+    assert!(rt; hart.arch().csrs.wide && hart.seq() <= RECORD_LIMIT);
     let again = Hart::of_state(rt.alloc(), 1, true, &d, &events)?;
     assert!(rt; again.state(rt.alloc())?.is_same(&d));
     assert_eq!(rt; (again.seq(), again.stamp(), again.number()), (6, 7, 1));
