@@ -129,15 +129,17 @@ judged_below l new r least is was below =
 pub judged_on : EarlyWritesHaveSettled → (l : LaneView) (new : RunView) (m : History) (least : Option ℕ) (r : Record) → IsNext l r → WasJudged l.run new r
     → IsTrue (is_below least r.stamp) → RunsOn l.run new m r → (wide : Bool) (all : List Write) → Continues m.writes least all
     → IsJudgedBy l m.image wide all → IsJudgedBy (with_run l new) m.image wide all
-judged_on settled l new m least r is was below on wide all goes so_far own are begins =
-    let old = judged_of l in
-    let more = judged_more l new r is was in
-    let split : own ≡ old ++ r ∷ begins.0 = sym begins.1 ∙ ap (λ (rs : List Record). rs ++ begins.0) more ∙ append_assoc old (r ∷ []) begins.0 in
-    let early = settled m.writes all least r.stamp goes below in
-    let until : HoldsUntil m.writes r.stamp all = record { later = early.0; are = early.1; after = early.2 } in
-    let its : AreOwn all l.run.hart.arch.hart own = subst (λ (hart : ℕ). AreOwn all hart own) (sym is.lane.number) are in
-    let before = so_far own are (r ∷ begins.0, sym split) in
-    subst (Runs new m.image all wide) (sym more) (on all wide [] old begins.0 (subst (AreOwn all l.run.hart.arch.hart) split its) until before)
+judged_on settled l new m least r is was below on wide all goes so_far = record {
+  runs = λ own are begins.
+      let old = judged_of l in
+      let more = judged_more l new r is was in
+      let split : own ≡ old ++ r ∷ begins.0 = sym begins.1 ∙ ap (λ (rs : List Record). rs ++ begins.0) more ∙ append_assoc old (r ∷ []) begins.0 in
+      let early = settled m.writes all least r.stamp goes below in
+      let until : HoldsUntil m.writes r.stamp all = record { later = early.0; are = early.1; after = early.2 } in
+      let its : AreOwn all l.run.hart.arch.hart own = subst (λ (hart : ℕ). AreOwn all hart own) (sym is.lane.number) are in
+      let before = so_far.runs own are (r ∷ begins.0, sym split) in
+      subst (Runs new m.image all wide) (sym more) (on all wide [] old begins.0 (subst (AreOwn all l.run.hart.arch.hart) split its) until before);
+}
 
 -- ---- several records
 

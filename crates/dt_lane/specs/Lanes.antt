@@ -32,9 +32,9 @@ pub record IsPopped (ended : Bool) (taken popped : List Record) : Type 0 where
   pub over : ended ≡ true → (e : Record) × (is_feed_end e ≡ true) × (popped ≡ taken ++ e ∷ [])
 
 -- The run is that of the judged records over this image and these writes, whatever longer list of all records of the hart they begin.
-abbrev pub IsJudgedBy : LaneView → (image : List ℕ) → (wide : Bool) → (all : List Write) → Type 0
-IsJudgedBy l image wide all = (own : List Record) → AreOwn all l.intake.hart own → IsPrefix (judged_of l) own
-    → Runs l.run image all wide (judged_of l)
+pub record IsJudgedBy (l : LaneView) (image : List ℕ) (wide : Bool) (all : List Write) : Type 0 where
+  pub runs : (own : List Record) → AreOwn all l.intake.hart own → IsPrefix (judged_of l) own
+      → Runs l.run image all wide (judged_of l)
 
 -- what holds of a lane between its calls
 pub record IsLane (l : LaneView) : Type 0 where

@@ -1,0 +1,4 @@
+mod AllTold
+mod EndLaws
+mod Steadiness
+mod Takings

@@ -1,0 +1,29 @@
+use Rattle.std.proofs.Common.{rules, ◌≡◌, ◌<◌, ◌∙◌, length, get_or, sym, subst, arith}
+use Rattle.std.proofs.lemmas.List.{get_or_default}
+use Rattle.dt_lane.specs.Lanes.{LaneView}
+use Rattle.dt_worker.specs.Steps.{TakesMore}
+use Rattle.dt_worker.proofs.Takings.{set-more, set-others, set-size, set-all}
+use Rattle.dt_worker.proofs.lanes.take_all.Goals as goal
+
+pub returns-in_err-take_one : goal.returns-in_err-take_one
+returns-in_err-take_one g c =
+    let was = c.loop-i.invariant in
+    let in-lanes : c.loop-i.i < length c.loop-i.lanes.items = grind arith in
+    let here : get_or c.loop-i.lanes.items c.loop-i.i c.index_mut.result.now ≡ c.index_mut.result.now = search rules in
+    let one : (d : LaneView) → TakesMore (get_or c.loop-i.lanes.items c.loop-i.i d) c.take_one.new.lane = λ d.
+    subst (λ (u : LaneView). TakesMore u c.take_one.new.lane)
+    (sym (get_or_default c.loop-i.lanes.items c.loop-i.i d c.index_mut.result.now in-lanes ∙ here)) c.take_one.ensures in
+    set-all _ _ _ _ was.size in-lanes was.more was.others one
+
+pub loop-i-preserved : goal.loop-i-preserved
+loop-i-preserved g c =
+    let was = c.loop-i.invariant in
+    let in-lanes : c.loop-i.i < length c.loop-i.lanes.items = grind arith in
+    let here : get_or c.loop-i.lanes.items c.loop-i.i c.index_mut.result.now ≡ c.index_mut.result.now = search rules in
+    let one : (d : LaneView) → TakesMore (get_or c.loop-i.lanes.items c.loop-i.i d) c.take_one.new.lane = λ d.
+    subst (λ (u : LaneView). TakesMore u c.take_one.new.lane)
+    (sym (get_or_default c.loop-i.lanes.items c.loop-i.i d c.index_mut.result.now in-lanes ∙ here)) c.take_one.ensures in record {
+      size = set-size _ _ _ _ was.size in-lanes was.more was.others one;
+      more = set-more _ _ _ _ was.size in-lanes was.more was.others one;
+      others = set-others _ _ _ _ was.size in-lanes was.more was.others one;
+    }
