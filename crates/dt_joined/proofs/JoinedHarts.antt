@@ -89,8 +89,8 @@ no_failure false count all none judged = grind (arith, nat_tests)
 
 judged_at_end : (over news judged : Bool) → IsTrue (over && (not news && judged)) → IsTrue judged
 judged_at_end true false judged done = done
-judged_at_end true true judged done = absurd done
-judged_at_end false news judged done = absurd done
+judged_at_end true true judged done = cc
+judged_at_end false news judged done = cc
 
 judged_hart : FileRecordsAreOwn → FileRecordsAreUsable → (image : List ℕ) (wide : Bool) (harts : ℕ) (file : List Record)
     (passes : List PassState) (e : HartEnd) → AreRecords harts no_stamps file → AreFileRecords file → length file ≤ RECORD_LIMIT

@@ -1,0 +1,4 @@
+mod Hands
+mod Making
+mod Ended
+mod Joined
