@@ -2,3 +2,4 @@ mod Hands
 mod Making
 mod Ended
 mod Joined
+mod Meeting

@@ -6,7 +6,5 @@ mod checking;
 mod joining;
 mod opening;
 mod starting;
-#[cfg(test)]
-mod tests;
 
 pub use checking::check;
