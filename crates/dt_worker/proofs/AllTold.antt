@@ -8,8 +8,8 @@ use Rattle.dt_intake.specs.Intakes.{has_news, news_of, after_telling}
 use Rattle.dt_intake.specs.Laws.{TellingGoesOn, OwnNotesDecide, NewsIsOfOneHart}
 use Rattle.dt_intake.specs.Told.{is_of, own_notes, IsTold}
 use Rattle.dt_lane.specs.Lanes.{LaneView}
+use Rattle.dt_worker.specs.Steps.{AreOthers, EachGoes, IsInStep}
 use Rattle.dt_worker.specs.Telling.{news_in, told_lane, Tells}
-use Rattle.dt_worker.specs.Workers.{AreOthers, IsInStep, EachGoes}
 
 -- The news of several lanes, put together, tells each lane.
 
@@ -85,10 +85,10 @@ module _ (goes_on : TellingGoesOn) (decide : OwnNotesDecide) (one_hart : NewsIsO
         (told_by (get_or lanes k d) own (flat_map news_in lanes)
         (own-news lanes k d (here k h) (λ j g ne. before.apart.each k j d (here k h) g ne)) (before.told k d (here k h)));
     no_other = λ hart others.
-        let mine : AreOthers hart lanes = λ j d h e. others j d (there j h) (e ∙ sym (same j d h)) in
+        let mine : AreOthers hart lanes = λ j d h e. others j d (there j h) (same j d h ∙ e) in
         own-append hart own (flat_map news_in lanes)
         ∙ ap (λ (ns : List Note). ns ++ own_notes hart (flat_map news_in lanes)) (before.no_other hart mine)
-        ∙ other-news hart lanes mine;
+        ∙ other-news hart lanes (λ j d h e. mine j d h (sym e));
   }
     where
       here : (k : ℕ) → k < length later → k < length lanes

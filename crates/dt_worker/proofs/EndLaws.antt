@@ -1,6 +1,6 @@
 use Rattle.std.proofs.Common.{ℕ, ◌≡◌, ◌<◌, ◌||◌, Bool, true, false, not, List, [], ◌∷◌, ◌++◌, length, get_or, zero, suc, All, refl, sym, ap, ◌∙◌, subst, arith}
 use Rattle.std.specs.Prelude.{IsTrue}
-use Rattle.std.proofs.lemmas.Bool.{and_parts, not-true, false≢true}
+use Rattle.std.proofs.lemmas.Bool.{not-true, false≢true}
 use Rattle.std.proofs.lemmas.List.{append-nil}
 use mathlib.Core.List.{IsPrefix}
 use Rattle.dt_record.specs.declared.records.Record.{Record}
@@ -10,7 +10,7 @@ use Rattle.dt_record.specs.Marks.{HasPassed, PassedGoesOn}
 use Rattle.dt_queue.specs.declared.ends.Take.{Take}
 use Rattle.dt_record.specs.Writes.{by_key}
 use Rattle.dt_core.specs.Notes.{announced}
-use Rattle.dt_intake.specs.Intakes.{IntakeView, new_intake, is_over, has_news}
+use Rattle.dt_intake.specs.Intakes.{IntakeView, new_intake}
 use Rattle.dt_intake.specs.Told.{IsTold, own_notes}
 use Rattle.dt_intake.specs.Laws.{NothingIsTold}
 use Rattle.dt_settled.specs.AllWrites.{AreAllWrites, FrontsTellAllWrites, OrderlyWritesMayBeAll}
@@ -19,12 +19,13 @@ use Rattle.dt_settled.specs.Settling.{SettledView, new_settled}
 use Rattle.dt_shared.specs.Entries.{notes_in}
 use Rattle.dt_shared.specs.Passes.{PassState, new_pass}
 use Rattle.dt_lane.specs.declared.ends.HartEnd.{HartEnd}
-use Rattle.dt_lane.specs.Lanes.{LaneView, judged_of, IsJudgedBy, is_judged, is_done}
-use Rattle.dt_worker.specs.declared.workers.WorkerEnd.{WorkerEnd}
-use Rattle.dt_worker.specs.Ends.{IsLaneEnd, AreLaneEnds, IsOpened, AreOpened}
+use Rattle.dt_lane.specs.Lanes.{LaneView, judged_of, IsJudgedBy, is_done}
+use Rattle.dt_worker.specs.declared.ends.WorkerEnd.{WorkerEnd}
+use Rattle.dt_worker.specs.Ends.{has_finished, IsHartEnd, IsLaterPass, IsWorkerEnd}
+use Rattle.dt_worker.specs.LaneEnds.{IsLaneEnd, AreLaneEnds, IsOpened, AreOpened}
 use Rattle.dt_worker.specs.Laws.{OutcomesOverItsOwnHistory}
-use Rattle.dt_worker.specs.Steps.{SameLane, Goes}
-use Rattle.dt_worker.specs.Workers.{WorkerView, EachGoes, IsSteady, IsInStep, AreOthers, IsHartEnd, IsWorkerEnd, IsLaterPass, AreDifferent, AreLanesOf}
+use Rattle.dt_worker.specs.Steps.{AreOthers, EachGoes, Goes, IsInStep, IsSteady, SameLane}
+use Rattle.dt_worker.specs.Workers.{AreNewLanes, AreOfDifferentHarts, WorkerView}
 use Rattle.dt_worker.proofs.Steadiness.{prefix-chain, pass-further}
 
 -- How a worker begins, goes on and ends.
@@ -87,27 +88,27 @@ worker-end goes_on fronts w e was same ends refused stopped done =
         number = ap (λ (p : PassState). p.number) same;
         seen = ([], append-nil w.pass.seen ∙ sym (ap (λ (p : PassState). p.seen) same));
       };
-      takes_len = sizes.0;
-      harts_len = sizes.1;
-      harts = λ k l t h g.
+      takes = sizes.0;
+      harts = sizes.1;
+      each = λ k l t h g.
           let end = ends_at w.lanes e.takes.items e.harts.items ends k l t h g in record {
             lane = get_or w.lanes k l;
             is_lane = end.lane;
+            same_queue = refl;
+            same_hart = refl;
+            take_hart = end.number;
             queue = end.queue;
-            hart = (end.number, end.hart, refl);
+            hart = end.hart;
             popped = end.popped;
             taken_are = end.taken_are;
             told = in_step.told k l g;
             passed = λ j r i. pass-further goes_on w.harts (get_or (judged_of (get_or w.lanes k l)) j r).stamp w.notes (notes_in e.pass.seen) begins (was.passed k l g j r i);
             judged = λ all are. was.judged all (fronts w.image w.harts w.notes (notes_in e.pass.seen) all begins are) k l g;
             count = end.count;
-            outcome = end.outcome;
-            notes = end.notes;
-            whole = λ finished.
-                let flags = or-parts e.refused e.stopped finished in
-                let all-done : IsTrue (is_done (get_or w.lanes k l)) = done (sym refused ∙ flags.0) flags.1 k l g in
-                let parts = and_parts (is_over (get_or w.lanes k l).intake) _ all-done in
-                (parts.0, (and_parts (not (has_news (get_or w.lanes k l).intake)) (is_judged (get_or w.lanes k l)) parts.1).1);
+            outcome_is = end.outcome_is;
+            notes_are = end.notes_are;
+            done = λ finished.
+                let flags = or-parts e.refused e.stopped finished in done (sym refused ∙ flags.0) flags.1 k l g;
           };
       no_other = in_step.no_other;
       refused = refused ∙ sym (ap (λ (p : PassState). p.stopped) same);
@@ -121,8 +122,11 @@ same-end : (u v : WorkerView) (pass : PassState) (finished : Bool) (a b : LaneVi
 same-end u v pass finished a b t h harts wide image same is = record {
   lane = is.lane;
   is_lane = is.is_lane;
+  same_queue = is.same_queue ∙ same.queue;
+  same_hart = is.same_hart ∙ same.hart;
+  take_hart = is.take_hart ∙ same.hart;
   queue = is.queue ∙ same.queue;
-  hart = (is.hart.0 ∙ same.hart, is.hart.1 ∙ same.hart, is.hart.2 ∙ same.hart);
+  hart = is.hart ∙ same.hart;
   popped = is.popped;
   taken_are = is.taken_are;
   told = is.told;
@@ -134,9 +138,9 @@ same-end u v pass finished a b t h harts wide image same is = record {
       (subst (λ (i : List ℕ). AreAllWrites i v.harts (notes_in pass.seen) all) (sym image)
       (subst (λ (n : ℕ). AreAllWrites u.image n (notes_in pass.seen) all) (sym harts) are))));
   count = is.count;
-  outcome = is.outcome;
-  notes = is.notes;
-  whole = is.whole;
+  outcome_is = is.outcome_is;
+  notes_are = is.notes_are;
+  done = is.done;
 }
 
 pub end_of_later : (u v : WorkerView) (e : WorkerEnd) → Goes u v → IsWorkerEnd v e → IsWorkerEnd u e
@@ -148,14 +152,14 @@ end_of_later u v e goes is =
         number = is.pass.number ∙ goes.pass.number;
         seen = prefix-chain u.pass.seen v.pass.seen e.pass.seen goes.pass.seen is.pass.seen;
       };
-      takes_len = is.takes_len ∙ size;
-      harts_len = is.harts_len ∙ size;
-      harts = λ k l t h g.
-          same-end u v e.pass (not (e.refused || e.stopped)) (get_or u.lanes k l) (get_or v.lanes k l) (get_or e.takes.items k t) (get_or e.harts.items k h) goes.harts goes.wide goes.image
-          (goes.lanes.each k l g) (is.harts k l t h (there k g));
+      takes = is.takes ∙ size;
+      harts = is.harts ∙ size;
+      each = λ k l t h g.
+          same-end u v e.pass (has_finished e) (get_or u.lanes k l) (get_or v.lanes k l) (get_or e.takes.items k t) (get_or e.harts.items k h)
+          goes.harts goes.wide goes.image (goes.lanes.each k l g) (is.each k l t h (there k g));
       no_other = λ hart others. is.no_other hart (λ j d g same.
           let here : j < length u.lanes = omega arith in
-          others j d here (same ∙ (goes.lanes.each j d here).hart));
+          others j d here (sym (goes.lanes.each j d here).hart ∙ same));
       refused = is.refused;
       stopped = is.stopped;
     }
@@ -176,12 +180,11 @@ opened_at wide (y ∷ ts) [] are k t l h = absurd are
 opened_at wide (y ∷ ts) (x ∷ ls) are zero t l h = are.0
 opened_at wide (y ∷ ts) (x ∷ ls) are (suc k) t l h = opened_at wide ts ls are.1 k t l (omega arith)
 
-pub opened-lanes : (wide : Bool) (ts : List (ℕ × Take)) (ls : List LaneView) → AreOpened wide ts ls → AreLanesOf ts ls
+pub opened-lanes : (wide : Bool) (ts : List (ℕ × Take)) (ls : List LaneView) → AreOpened wide ts ls → AreNewLanes ts ls
 opened-lanes wide ts ls are =
     let size : length ls ≡ length ts = opened_len wide ts ls are in record {
       size = size;
-      queues = λ k t l h. (opened_at wide ts ls are k t l (omega arith)).queue;
-      harts = λ k t l h. ap (λ (v : IntakeView). v.hart) (opened_at wide ts ls are k t l (omega arith)).intake;
+      each = λ k t l h. (opened_at wide ts ls are k t l (omega arith)).fresh;
     }
 
 any-take : (ts : List (ℕ × Take)) (k : ℕ) → k < length ts → ℕ × Take
@@ -189,7 +192,7 @@ any-take [] k h = absurd (omega arith)
 any-take (t ∷ ts) k h = t
 
 pub opened_steady : NothingIsTold → SeeingStarts → (harts : ℕ) (wide : Bool) (image : List ℕ) (pass : PassState) (ts : List (ℕ × Take)) (ls : List LaneView)
-    → AreDifferent ts → AreOpened wide ts ls → pass ≡ new_pass pass.of pass.number
+    → AreOfDifferentHarts ts → AreOpened wide ts ls → pass ≡ new_pass pass.of pass.number
     → IsSteady (record { harts = harts; wide = wide; image = image; pass = pass; lanes = ls; notes = []; settled = new_settled image })
 opened_steady none starts harts wide image pass ts ls apart are new =
     let own : pass.own ≡ [] = ap (λ (p : PassState). p.own) new in
@@ -203,12 +206,12 @@ opened_steady none starts harts wide image pass ts ls apart are new =
           each = λ j k d h g ne same.
               let t = any-take ts j (omega arith) in
               apart.each j k t (omega arith) (omega arith) ne
-              (sym (ap (λ (v : IntakeView). v.hart) (at j d h t).intake) ∙ same ∙ ap (λ (v : IntakeView). v.hart) (at k d g t).intake);
+              (sym (ap (λ (v : IntakeView). v.hart) (at j d h t).fresh.intake) ∙ same ∙ ap (λ (v : IntakeView). v.hart) (at k d g t).fresh.intake);
         };
         told = λ k d h.
             let opened = at k d h (any-take ts k (omega arith)) in
             subst (λ (ns : List Note). IsTold (get_or ls k d).intake ns) (sym own)
-            (subst (λ (v : IntakeView). IsTold v []) (sym opened.intake) (none _));
+            (subst (λ (v : IntakeView). IsTold v []) (sym opened.fresh.intake) (none _));
         no_other = λ hart others. ap (own_notes hart) own;
       };
       passed = λ k d h.
@@ -222,7 +225,7 @@ opened_steady none starts harts wide image pass ts ls apart are new =
 
 pub opened_worker : NothingIsTold → SeeingStarts → (harts : ℕ) (wide : Bool) (image : List ℕ) (settled : SettledView) (pass given : PassState) (notes : List Note)
     (ts : List (ℕ × Take)) (ls : List LaneView)
-    → settled ≡ new_settled image → notes ≡ [] → pass ≡ given → AreDifferent ts → AreOpened wide ts ls → given ≡ new_pass given.of given.number
+    → settled ≡ new_settled image → notes ≡ [] → pass ≡ given → AreOfDifferentHarts ts → AreOpened wide ts ls → given ≡ new_pass given.of given.number
     → IsSteady (record { harts = harts; wide = wide; image = settled.image; pass = pass; lanes = ls; notes = notes; settled = settled })
 opened_worker none starts harts wide image settled pass given notes ts ls is-settled is-notes is-pass apart are new =
     subst (λ (s : SettledView). IsSteady (record { harts = harts; wide = wide; image = s.image; pass = pass; lanes = ls; notes = notes; settled = s })) (sym is-settled)
@@ -242,13 +245,13 @@ any-given (t ∷ ts) ls k size h = t
 
 pub own-history : OrderlyWritesMayBeAll → OutcomesOverItsOwnHistory
 own-history may w e k h is orderly g =
-    let t = any-given e.takes.items w.lanes k is.takes_len g in
-    let end = is.harts k (any-lane w.lanes k g) t h g in record {
+    let t = any-given e.takes.items w.lanes k is.takes g in
+    let end = is.each k (any-lane w.lanes k g) t h g in record {
       lane = end.lane;
-      hart = end.hart.2 ∙ sym end.hart.1;
+      hart = end.same_hart ∙ sym end.hart;
       taken_are = sym end.taken_are;
       judged = end.judged (by_key (announced (notes_in e.pass.seen))) (may w.image w.harts (notes_in e.pass.seen) orderly);
       count = end.count;
-      outcome = end.outcome;
-      notes = end.notes;
+      outcome_is = end.outcome_is;
+      notes_are = end.notes_are;
     }

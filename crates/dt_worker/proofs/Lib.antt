@@ -1,4 +1,4 @@
 mod AllTold
+mod EachLane
 mod EndLaws
 mod Steadiness
-mod Takings

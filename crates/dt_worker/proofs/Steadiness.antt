@@ -1,7 +1,8 @@
 use Rattle.std.proofs.Common.{ℕ, ◌≡◌, ◌<◌, ◌≤◌, ◌-◌, Bool, true, false, cond, Option, List, [], ◌++◌, length, min, take, drop, get_or, All, refl, sym, ap, ◌∙◌, subst, inl, inr, arith, length-drop}
 use Rattle.std.specs.Prelude.{IsTrue, Result, Ok, Err, OnOk, OnErr}
 use Rattle.std.proofs.lemmas.Bool.{cases_lt}
-use Rattle.std.proofs.lemmas.List.{append_assoc, append-nil, map-append, length-take, get_or-take, get_or-drop, take-append-le}
+use Rattle.std.proofs.lemmas.List.Elements.{All-nil}
+use Rattle.std.proofs.lemmas.List.{append_assoc, drop_all, append-nil, map-append, length-take, get_or-take, get_or-drop, take-append-le}
 use Rattle.std.proofs.Math.Seq.{take-length}
 use mathlib.Core.List.{IsPrefix}
 use Rattle.dt_record.specs.declared.records.Record.{Record}
@@ -22,9 +23,9 @@ use Rattle.dt_shared.specs.Entries.{notes_in}
 use Rattle.dt_shared.specs.Passes.{PassState}
 use Rattle.dt_shared.specs.Replicas.{ReplicaState}
 use Rattle.dt_lane.specs.Lanes.{LaneView, judged_len, judged_of, IsJudgedBy}
-use Rattle.dt_worker.specs.Steps.{TakesMore, JudgesMore, LooksFurther, HasSettled}
+use Rattle.dt_worker.specs.Steps.{AreApart, AreJudgedBy, AreOthers, ArePassed, EachGoes, HasSettled, IsInStep, IsSteady, JudgesMore, LooksFurther, TakesMore}
 use Rattle.dt_worker.specs.Telling.{told_lane, Tells}
-use Rattle.dt_worker.specs.Workers.{WorkerView, EachGoes, AreApart, AreOthers, IsInStep, AreJudgedBy, ArePassed, IsSteady}
+use Rattle.dt_worker.specs.Workers.{WorkerView}
 
 -- What a worker's steps keep.
 
@@ -55,7 +56,7 @@ same-apart lanes later same apart = record {
 }
 
 same-others : (lanes later : List LaneView) → SameHarts lanes later → (hart : ℕ) → AreOthers hart later → AreOthers hart lanes
-same-others lanes later same hart others = λ j d h e. others j d (there lanes later same j h) (e ∙ sym (same.each j d h))
+same-others lanes later same hart others = λ j d h e. others j d (there lanes later same j h) (same.each j d h ∙ e)
 
 -- what a step keeps that judges nothing
 
@@ -65,10 +66,12 @@ record KeepsJudged (u v : LaneView) : Type 0 where
   pub judged : judged_of v ≡ judged_of u
 
 kept-judged : (u v : LaneView) → KeepsJudged u v → (image : List ℕ) (wide : Bool) (all : List Write) → IsJudgedBy u image wide all → IsJudgedBy v image wide all
-kept-judged u v keeps image wide all was = λ own are begins.
-    subst (λ (x : RunView). Runs x image all wide (judged_of v)) (sym keeps.run)
-    (subst (λ (rs : List Record). Runs u.run image all wide rs) (sym keeps.judged)
-    (was own (subst (λ (h : ℕ). AreOwn all h own) keeps.hart are) (subst (λ (rs : List Record). IsPrefix rs own) keeps.judged begins)))
+kept-judged u v keeps image wide all was = record {
+  runs = λ own are begins.
+      subst (λ (x : RunView). Runs x image all wide (judged_of v)) (sym keeps.run)
+      (subst (λ (rs : List Record). Runs u.run image all wide rs) (sym keeps.judged)
+      (was.runs own (subst (λ (h : ℕ). AreOwn all h own) keeps.hart are) (subst (λ (rs : List Record). IsPrefix rs own) keeps.judged begins)));
+}
 
 kept-passed : (u v : LaneView) → KeepsJudged u v → (harts : ℕ) (notes : List Note)
     → All (λ (r : Record). HasPassed harts notes r.stamp) (judged_of u) → All (λ (r : Record). HasPassed harts notes r.stamp) (judged_of v)
@@ -93,6 +96,9 @@ all-judged lanes later keep image wide all was = λ k d h.
     kept-judged (get_or lanes k d) (get_or later k d) (keep.each k d k-in) image wide all (was k d k-in)
 
 -- taking
+
+pub takes-same : (u : LaneView) → TakesMore u u
+takes-same u = record { queue = refl; hart = refl; run = refl; judged = refl; told = λ notes was. was }
 
 taken-keep : (lanes later : List LaneView) → EachGoes TakesMore lanes later → AllKeep lanes later
 taken-keep lanes later goes = record {
@@ -195,13 +201,24 @@ looking_keeps goes_on fronts w q r s v notes harts further was =
 
 -- judging
 
-judged-harts : (least : Option ℕ) (lanes later : List LaneView) → EachGoes (JudgesMore least) lanes later → SameHarts lanes later
-judged-harts least lanes later goes = record { size = goes.size; each = λ k d h. ap (λ (l : LaneView). l.intake.hart) (goes.each k d h).same }
+-- behind the judged records of a lane there is none of them
+none-behind : (l : LaneView) → drop (judged_len l.run) (judged_of l) ≡ []
+none-behind l = drop_all (judged_len l.run) (judged_of l) (omega (arith, length-take (judged_len l.run) (usable_of l.intake)))
 
-judged-in_step : (least : Option ℕ) (lanes later : List LaneView) (own : List Note) → EachGoes (JudgesMore least) lanes later
+pub judges-same : (m : History) (least : Option ℕ) (u : LaneView) → JudgesMore m least u u
+judges-same m least u = record {
+  same = refl;
+  below = subst (All (λ (r : Record). IsTrue (is_below least r.stamp))) (sym (none-behind u)) (All-nil (λ (r : Record). IsTrue (is_below least r.stamp)));
+  judged = λ wide all goes was. was;
+}
+
+judged-harts : (m : History) (least : Option ℕ) (lanes later : List LaneView) → EachGoes (JudgesMore m least) lanes later → SameHarts lanes later
+judged-harts m least lanes later goes = record { size = goes.size; each = λ k d h. ap (λ (l : LaneView). l.intake.hart) (goes.each k d h).same }
+
+judged-in_step : (m : History) (least : Option ℕ) (lanes later : List LaneView) (own : List Note) → EachGoes (JudgesMore m least) lanes later
     → IsInStep lanes own → IsInStep later own
-judged-in_step least lanes later own goes was =
-    let same : SameHarts lanes later = judged-harts least lanes later goes in record {
+judged-in_step m least lanes later own goes was =
+    let same : SameHarts lanes later = judged-harts m least lanes later goes in record {
       apart = same-apart lanes later same was.apart;
       told = λ k d h.
           let k-in = here lanes later same k h in
@@ -231,9 +248,10 @@ all-of_more P xs n m first more = λ j d h.
           subst P same (more (j - n) d (omega arith))
     ]
 
-judged-passed : BelowMarkMayBeJudged → JudgedIsPassed → (harts : ℕ) (notes : List Note) (u v : LaneView) → JudgesMore (least_mark harts notes) u v
+judged-passed : BelowMarkMayBeJudged → JudgedIsPassed → (m : History) (harts : ℕ) (notes : List Note) (u v : LaneView)
+    → JudgesMore m (least_mark harts notes) u v
     → All (λ (r : Record). HasPassed harts notes r.stamp) (judged_of u) → All (λ (r : Record). HasPassed harts notes r.stamp) (judged_of v)
-judged-passed may passed harts notes u v more was =
+judged-passed may passed m harts notes u v more was =
     let P : Record → Type 0 = λ r. HasPassed harts notes r.stamp in
     let usable : usable_of v.intake ≡ usable_of u.intake = ap (λ (l : LaneView). usable_of l.intake) more.same in
     let judged : judged_of v ≡ take (judged_len v.run) (usable_of u.intake) = ap (take (judged_len v.run)) usable in
@@ -241,23 +259,42 @@ judged-passed may passed harts notes u v more was =
     let later : All P (drop (judged_len u.run) (take (judged_len v.run) (usable_of u.intake))) = λ j d h. below-passed may passed harts notes _ (below j d h) in
     subst (All P) (sym judged) (all-of_more P (usable_of u.intake) (judged_len u.run) (judged_len v.run) was later)
 
+-- each lane is judged by all writes after it was judged further
+all-judged_more : (m : History) (least : Option ℕ) (lanes later : List LaneView) → EachGoes (JudgesMore m least) lanes later
+    → (wide : Bool) (all : List Write) → Continues m.writes least all → AreJudgedBy lanes m.image wide all → AreJudgedBy later m.image wide all
+all-judged_more m least lanes later goes wide all settled was = λ k d h.
+    let k-in = here lanes later (judged-harts m least lanes later goes) k h in
+    (goes.each k d k-in).judged wide all settled (was k d k-in)
+
 pub judging_keeps : BelowMarkMayBeJudged → JudgedIsPassed → (w : WorkerView) (later : List LaneView)
-    → EachGoes (JudgesMore (least_mark w.harts w.notes)) w.lanes later
-    → ((all : List Write) → AreAllWrites w.image w.harts w.notes all → AreJudgedBy w.lanes w.image w.wide all → AreJudgedBy later w.image w.wide all)
-    → IsSteady w → IsSteady (record w { lanes = later })
-judging_keeps may passed w later goes judged was =
+    → EachGoes (JudgesMore (history w.settled.image w.settled.writes) (least_mark w.harts w.notes)) w.lanes later
+    → HasSettled w → IsSteady w → IsSteady (record w { lanes = later })
+judging_keeps may passed w later goes settled was =
+    let m = history w.settled.image w.settled.writes in
     let least = least_mark w.harts w.notes in
-    let same : SameHarts w.lanes later = judged-harts least w.lanes later goes in record {
+    let same : SameHarts w.lanes later = judged-harts m least w.lanes later goes in record {
       begins = was.begins;
       within = was.within;
       image = was.image;
-      in_step = judged-in_step least w.lanes later w.pass.own goes was.in_step;
+      in_step = judged-in_step m least w.lanes later w.pass.own goes was.in_step;
       passed = λ k d h.
           let k-in = here w.lanes later same k h in
-          judged-passed may passed w.harts w.notes (get_or w.lanes k d) (get_or later k d) (goes.each k d k-in) (was.passed k d k-in);
+          judged-passed may passed m w.harts w.notes (get_or w.lanes k d) (get_or later k d) (goes.each k d k-in) (was.passed k d k-in);
       settled = was.settled;
-      judged = λ all are. judged all are (was.judged all are);
+      judged = λ all are.
+          subst (λ (i : List ℕ). AreJudgedBy later i w.wide all) was.image
+          (all-judged_more m least w.lanes later goes w.wide all (settled.continues all are)
+          (subst (λ (i : List ℕ). AreJudgedBy w.lanes i w.wide all) (sym was.image) (was.judged all are)));
     }
+
+-- the same by what the calls say
+pub judging_steady : BelowMarkMayBeJudged → JudgedIsPassed → (w : WorkerView) (later : List LaneView) (m : History) (least : Option ℕ)
+    → m ≡ history w.settled.image w.settled.writes → least ≡ least_mark w.harts w.notes → EachGoes (JudgesMore m least) w.lanes later
+    → HasSettled w → IsSteady w → IsSteady (record w { lanes = later })
+judging_steady may passed w later m least is-m is-least goes =
+    judging_keeps may passed w later
+    (subst (λ (h : History). EachGoes (JudgesMore h (least_mark w.harts w.notes)) w.lanes later) is-m
+    (subst (λ (l : Option ℕ). EachGoes (JudgesMore m l) w.lanes later) is-least goes))
 
 -- a look
 
@@ -331,27 +368,12 @@ has_settled fronts w q r s v result notes harts further was continues =
     let same : s.harts ≡ w.harts = ap (λ (t : ReplicaState). t.harts) further.replica ∙ harts in
     let image : v.image ≡ w.image = further.image ∙ was.image in
     let begins : IsPrefix w.notes s.notes = subst (λ (ns : List Note). IsPrefix ns s.notes) notes further.notes in
-    on_ok result (λ settles all are.
-    subst (λ (h : ℕ). Continues v.writes (least_mark h s.notes) all) same
-    (settles all (subst (λ (h : ℕ). AreAllWrites v.image h s.notes all) (sym same) are)
-    (subst (λ (ns : List Note). Stands w.settled (take w.settled.seen ns) all) (sym notes)
-    (was.settled all (fronts w.image w.harts w.notes s.notes all begins (subst (λ (i : List ℕ). AreAllWrites i w.harts s.notes all) image are))))))
+    on_ok result (λ settles. record {
+      continues = λ all are.
+          subst (λ (h : ℕ). Continues v.writes (least_mark h s.notes) all) same
+          (settles all (subst (λ (h : ℕ). AreAllWrites v.image h s.notes all) (sym same) are)
+          (subst (λ (ns : List Note). Stands w.settled (take w.settled.seen ns) all) (sym notes)
+          (was.settled all
+          (fronts w.image w.harts w.notes s.notes all begins (subst (λ (i : List ℕ). AreAllWrites i w.harts s.notes all) image are)))));
+    })
     continues
-
--- the same by what the calls say
-
-pub judging_steady : BelowMarkMayBeJudged → JudgedIsPassed → (w : WorkerView) (later : List LaneView) (m : History) (least : Option ℕ)
-    → m ≡ history w.settled.image w.settled.writes → least ≡ least_mark w.harts w.notes → EachGoes (JudgesMore least) w.lanes later
-    → ((wide : Bool) (all : List Write) → Continues m.writes least all → AreJudgedBy w.lanes m.image wide all → AreJudgedBy later m.image wide all)
-    → HasSettled w → IsSteady w → IsSteady (record w { lanes = later })
-judging_steady may passed w later m least is-m is-least goes judged settled was =
-    let image : m.image ≡ w.image = ap (λ (h : History). h.image) is-m ∙ was.image in
-    let writes : m.writes ≡ w.settled.writes = ap (λ (h : History). h.writes) is-m in
-    judging_keeps may passed w later (subst (λ (l : Option ℕ). EachGoes (JudgesMore l) w.lanes later) is-least goes)
-    (λ all are old.
-    subst (λ (i : List ℕ). AreJudgedBy later i w.wide all) image
-    (judged w.wide all
-    (subst (λ (ws : List Write). Continues ws least all) (sym writes)
-    (subst (λ (l : Option ℕ). Continues w.settled.writes l all) (sym is-least) (settled all are)))
-    (subst (λ (i : List ℕ). AreJudgedBy w.lanes i w.wide all) (sym image) old)))
-    was

@@ -1,5 +1,5 @@
 -- What a worker gives back, and what it promises of it. All of it is this project's own.
-use Rattle.std.specs.Prelude.{◌≡◌, ◌≢◌, ◌<◌, ◌||◌, not, ℕ, Bool, true, List, length, slice_index_or, All, IsTrue}
+use Rattle.std.specs.Prelude.{◌≡◌, ◌≢◌, ◌<◌, ◌||◌, not, ℕ, Bool, true, List, [], length, slice_index_or, All, IsTrue}
 use mathlib.Core.List.{IsPrefix}
 use Rattle.dt_queue.specs.declared.ends.Take.{Take}
 use Rattle.dt_queue.specs.Queue.{take_queue, taken}
@@ -54,7 +54,7 @@ pub record IsWorkerEnd (w : WorkerView) (e : WorkerEnd) : Type 0 where
   pub harts : length e.harts.items ≡ length w.lanes
   pub each : (k : ℕ) (l : LaneView) (t : ℕ × Take) (h : HartEnd) → k < length w.lanes
       → IsHartEnd w e.pass (has_finished e) (slice_index_or w.lanes k l) (slice_index_or e.takes.items k t)
-          (slice_index_or e.harts.items k h)
+      (slice_index_or e.harts.items k h)
   pub no_other : (hart : ℕ) → All (λ l. l.intake.hart ≢ hart) w.lanes → own_notes hart e.pass.own ≡ []
   pub refused : e.refused ≡ e.pass.stopped
   pub stopped : e.stopped ≡ true → e.pass.saw_stop ≡ true

@@ -1,5 +1,5 @@
 -- What holds of a worker between its steps, and what these do. All of it is this project's own.
-use Rattle.std.specs.Prelude.{◌≡◌, ◌≢◌, ◌<◌, ◌≤◌, ℕ, Bool, Option, List, take, drop, length, All, IsTrue, slice_index_or}
+use Rattle.std.specs.Prelude.{◌≡◌, ◌≢◌, ◌<◌, ◌≤◌, ℕ, Bool, Option, List, [], take, drop, length, All, IsTrue, slice_index_or}
 use mathlib.Core.List.{IsPrefix}
 use Rattle.dt_record.specs.declared.writes.Note.{Note}
 use Rattle.dt_record.specs.declared.writes.Write.{Write}

@@ -169,21 +169,11 @@ impl Worker {
         ensures pass { IsLaterPass self.old.pass self.new.pass }
         ensures lanes { EachGoes SameLane self.old.lanes self.new.lanes }
     {
-        announce(
-            rt,
-            shared,
-            &mut self.pass,
-            &mut self.lanes,
-            &mut self.news,
-        )
+        announce(rt, shared, &mut self.pass, &mut self.lanes, &mut self.news)
     }
 
     /// It answers the least mark of what was seen.
-    fn look_up<R: Wait>(
-        &mut self,
-        rt: &R,
-        shared: &SharedRecord,
-    ) -> Result<Option<u64>, AllocError>
+    fn look_up<R: Wait>(&mut self, rt: &R, shared: &SharedRecord) -> Result<Option<u64>, AllocError>
         requires of_this { self.old.pass.of ≡ identity shared.now }
         ensures same { self.new ≡ record self.old { pass = self.new.pass; notes = self.new.notes; settled = self.new.settled } }
         ensures pass { IsLaterPass self.old.pass self.new.pass }

@@ -2,7 +2,7 @@ use Rattle.std.proofs.Common.{ℕ, ◌≡◌, ◌+◌, ◌≤◌, ◌++◌, List
 use Rattle.std.specs.Vec.Iter.{into_iter_items, into_iter_len}
 use Rattle.dt_queue.specs.declared.ends.Take.{Take}
 use Rattle.dt_lane.specs.declared.ends.HartEnd.{HartEnd}
-use Rattle.dt_worker.specs.Ends.{AreLaneEnds}
+use Rattle.dt_worker.specs.LaneEnds.{AreLaneEnds}
 use Rattle.dt_worker.proofs.ending.end_all.Given as goal
 
 -- with what the lanes that are left give back, it is what all give back

@@ -5,7 +5,7 @@ use Rattle.std.specs.Vec.Iter.{into_iter_items}
 use Rattle.dt_queue.specs.declared.ends.Take.{Take}
 use Rattle.dt_queue.specs.Queue.{taken}
 use Rattle.dt_lane.specs.Lanes.{LaneView}
-use Rattle.dt_worker.specs.Ends.{AreOpened}
+use Rattle.dt_worker.specs.LaneEnds.{AreOpened}
 use Rattle.dt_worker.proofs.ending.open_all.Goals as goal
 
 pub loop-given-preserved : goal.loop-given-preserved

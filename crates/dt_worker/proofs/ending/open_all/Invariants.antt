@@ -3,7 +3,7 @@ use Rattle.std.specs.Vec.Iter.{into_iter_items, into_iter_len}
 use Rattle.std.specs.Prelude.{[]}
 use Rattle.dt_queue.specs.Queue.{taken}
 use Rattle.dt_lane.specs.Lanes.{LaneView}
-use Rattle.dt_worker.specs.Ends.{AreOpened}
+use Rattle.dt_worker.specs.LaneEnds.{AreOpened}
 use Rattle.dt_worker.proofs.ending.open_all.Given as goal
 
 -- with lanes for the takes that are left, there is one for each take

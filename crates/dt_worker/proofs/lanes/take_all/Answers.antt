@@ -2,7 +2,8 @@ use Rattle.std.proofs.Common.{rules, ◌≡◌, ◌<◌, ◌∙◌, length, get_
 use Rattle.std.proofs.lemmas.List.{get_or_default}
 use Rattle.dt_lane.specs.Lanes.{LaneView}
 use Rattle.dt_worker.specs.Steps.{TakesMore}
-use Rattle.dt_worker.proofs.Takings.{set-more, set-others, set-size, set-all}
+use Rattle.dt_worker.proofs.EachLane.{set-more, set-others, set-size, set-all}
+use Rattle.dt_worker.proofs.Steadiness.{takes-same}
 use Rattle.dt_worker.proofs.lanes.take_all.Goals as goal
 
 pub returns-in_err-take_one : goal.returns-in_err-take_one
@@ -13,7 +14,7 @@ returns-in_err-take_one g c =
     let one : (d : LaneView) → TakesMore (get_or c.loop-i.lanes.items c.loop-i.i d) c.take_one.new.lane = λ d.
     subst (λ (u : LaneView). TakesMore u c.take_one.new.lane)
     (sym (get_or_default c.loop-i.lanes.items c.loop-i.i d c.index_mut.result.now in-lanes ∙ here)) c.take_one.ensures in
-    set-all _ _ _ _ was.size in-lanes was.more was.others one
+    set-all (TakesMore) (takes-same) _ _ _ _ was.size in-lanes was.more was.others one
 
 pub loop-i-preserved : goal.loop-i-preserved
 loop-i-preserved g c =
@@ -23,7 +24,7 @@ loop-i-preserved g c =
     let one : (d : LaneView) → TakesMore (get_or c.loop-i.lanes.items c.loop-i.i d) c.take_one.new.lane = λ d.
     subst (λ (u : LaneView). TakesMore u c.take_one.new.lane)
     (sym (get_or_default c.loop-i.lanes.items c.loop-i.i d c.index_mut.result.now in-lanes ∙ here)) c.take_one.ensures in record {
-      size = set-size _ _ _ _ was.size in-lanes was.more was.others one;
-      more = set-more _ _ _ _ was.size in-lanes was.more was.others one;
-      others = set-others _ _ _ _ was.size in-lanes was.more was.others one;
+      size = set-size (TakesMore) (takes-same) _ _ _ _ was.size in-lanes was.more was.others one;
+      more = set-more (TakesMore) (takes-same) _ _ _ _ was.size in-lanes was.more was.others one;
+      others = set-others (TakesMore) (takes-same) _ _ _ _ was.size in-lanes was.more was.others one;
     }

@@ -2,7 +2,7 @@ use Rattle.std.proofs.Common.{◌≡◌, ◌++◌, List, sym, ap, ◌∙◌, sub
 use Rattle.std.specs.List.{flat_map}
 use Rattle.dt_record.specs.declared.writes.Note.{Note}
 use Rattle.dt_worker.specs.Telling.{news_in}
-use Rattle.dt_worker.specs.Workers.{IsInStep}
+use Rattle.dt_worker.specs.Steps.{IsInStep}
 use Rattle.dt_worker.proofs.AllTold.{all_in_step}
 use Rattle.dt_worker.proofs.telling.announce.Goals as goal
 

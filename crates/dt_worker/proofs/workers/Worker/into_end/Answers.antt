@@ -1,6 +1,7 @@
 use Rattle.std.proofs.Common.{◌≡◌, ap, subst, ◌∙◌}
-use Rattle.dt_worker.specs.Ends.{AreLaneEnds}
-use Rattle.dt_worker.specs.Workers.{WorkerView, IsSteady}
+use Rattle.dt_worker.specs.LaneEnds.{AreLaneEnds}
+use Rattle.dt_worker.specs.Steps.{IsSteady}
+use Rattle.dt_worker.specs.Workers.{WorkerView}
 use Rattle.dt_worker.proofs.EndLaws.{worker-end}
 use Rattle.dt_worker.proofs.workers.Worker.into_end.Goals as goal
 
