@@ -1,9 +1,10 @@
 -- From what the threads of a run left to the joined harts of its file.
-use Rattle.std.proofs.Common.{◌≡◌, ◌≢◌, ◌<◌, ◌≤◌, ◌+◌, ◌%◌, ◌&&◌, ◌==◌, ◌||◌, not, ℕ, Bool, true, false, Option, List, [], ◌∷◌, ◌++◌, length, get_or, map, refl, sym, ap, ◌∙◌, subst, inl, inr, arith, length-append}
+use Rattle.std.proofs.Common.{◌≡◌, ◌≢◌, ◌<◌, ◌≤◌, ◌+◌, ◌%◌, ◌&&◌, ◌==◌, ◌||◌, not, ℕ, zero, suc, Bool, true, false, Option, List, [], ◌∷◌, ◌++◌, length, get_or, map, refl, sym, ap, ◌∙◌, subst, inl, inr, arith, length-append}
 use Rattle.std.specs.Prelude.{All, Any, Contains, IsTrue}
 use Rattle.std.specs.List.{flat_map}
 use Rattle.std.proofs.lemmas.Bool.{cases_eq}
 use Rattle.std.proofs.lemmas.List.{append-nil, get_or-append-add, get_or-map, get_or_append_left, get_or_default, length-map}
+use Rattle.std.proofs.Math.Nat.{mod-lt}
 use Rattle.std.proofs.lemmas.List.Elements.{All-append, All-cons, All-map, All-nil, All-push, Contains-append_left}
 use Rattle.atomic_table.specs.Seated.{TableId}
 use Rattle.dt_record.specs.declared.records.Record.{Record}
@@ -14,6 +15,7 @@ use Rattle.dt_record.specs.Streams.{Progress}
 use Rattle.dt_intake.specs.Intakes.{is_over, has_news}
 use Rattle.dt_intake.specs.Told.{own_notes, IsTold}
 use Rattle.dt_queue.specs.declared.ends.Feed.{Feed}
+use Rattle.dt_reading.specs.Reading.{HasCome}
 use Rattle.dt_queue.specs.declared.ends.Take.{Take}
 use Rattle.dt_queue.specs.Queue.{fed, feed_queue, taken, take_queue}
 use Rattle.dt_runs.specs.RunView.{outcome_in}
@@ -224,11 +226,11 @@ pass_there ends feeder k e within =
     (k, omega (arith, within, length-map ends (λ (e : WorkerEnd). e.pass)), get_or-map (λ (e : WorkerEnd). e.pass) ends k e (get_or ends k e).pass within)
 
 pub joined_harts : PoppedEndMeansAll → (image : List ℕ) (wide : Bool) (harts : ℕ) (id : TableId) (told : Option (List Next)) (p : Progress)
-    (feeds : List Feed) (ends : List WorkerEnd) (feeder : PassState) → harts ≤ 8 → 0 < length ends
+    (feeds : List Feed) (ends : List WorkerEnd) (feeder : PassState) → harts ≤ 8
     → (run : HaveRun image wide harts id told p feeds ends feeder) → All (λ e. has_finished e ≡ true) ends
     → All (λ e. All (IsMet feeds) e.takes.items) ends
     → AreJoinedHarts image wide harts run.whole.given (all_passes ends feeder) (flat_map (λ e. e.harts.items) ends)
-joined_harts law image wide harts id told p feeds ends feeder few some run finished met =
+joined_harts law image wide harts id told p feeds ends feeder few run finished met =
     let o = run.opened in
     let given = run.whole.given in
     let passes = all_passes ends feeder in
@@ -280,7 +282,7 @@ joined_harts law image wide harts id told p feeds ends feeder few some run finis
           });
       all_harts = λ hart below.
           let number = hart % workers in
-          let number_in : number < length ends = omega (arith, count, some) in
+          let number_in : number < length ends = omega (arith, count, o.some, mod-lt hart {m = workers} (omega (arith, o.some))) in
           let e = some_of ends number number_in in
           let end = get_or ends number e in
           let b : IsEndOf image wide harts id workers run.first number end = end_at number e number_in in
@@ -314,3 +316,26 @@ all_of_this image wide harts id told p feeds ends feeder run =
         pass_of image wide harts id run.workers run.first k (get_or ends k e)
         (end_of image wide harts id run.workers run.first run.made ends o run.ended k e (omega (arith, within, count))))
     (ap (λ (q : PassState). q.of) run.idle)
+
+-- all records of the file came, and each to its hart
+pub came_of : (image : List ℕ) (wide : Bool) (harts : ℕ) (id : TableId) (told : Option (List Next)) (p : Progress) (feeds : List Feed)
+    (ends : List WorkerEnd) (feeder : PassState) → (run : HaveRun image wide harts id told p feeds ends feeder)
+    → HasCome told p harts wide run.whole.given
+came_of image wide harts id told p feeds ends feeder run =
+    subst (λ n. HasCome told p n wide run.whole.given) run.opened.are_hands.queues (run.whole.whole refl).0
+
+-- the workers are of the shared record
+pub made_of_this : (image : List ℕ) (wide : Bool) (harts : ℕ) (id : TableId) (workers : ℕ) (first : List Feed) (made : List WorkerView)
+    → AreOpened image wide harts id workers first made → All (λ w. w.pass.of ≡ id) made
+made_of_this image wide harts id workers first made o k w within =
+    let passes_in : k < length o.passes = omega (arith, within, o.are_made.size) in
+    let workers_in : k < workers = omega (arith, passes_in, o.in_order.size) in
+    let hands_in : k < length o.hands = omega (arith, workers_in, o.are_hands.size) in
+    let p = some_of o.passes k passes_in in
+    let new = o.are_made.each k p (some_of o.hands k hands_in) w passes_in in
+    ap (λ (p : PassState). p.of) (new.pass_is ∙ o.in_order.each k p workers_in)
+
+-- there is an end for each of them
+pub ends_count : (image : List ℕ) (wide : Bool) (harts : ℕ) (id : TableId) (workers : ℕ) (first : List Feed) (made : List WorkerView)
+    (ends : List WorkerEnd) → AreOpened image wide harts id workers first made → AreEnds made ends → length ends ≡ workers
+ends_count image wide harts id workers first made ends o are = as_many_ends made ends are ∙ o.are_made.size ∙ o.in_order.size

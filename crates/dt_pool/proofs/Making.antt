@@ -1,8 +1,8 @@
 -- The workers of the first hands.
-use Rattle.std.proofs.Common.{◌≡◌, ◌<◌, ◌≤◌, ◌+◌, ℕ, Bool, List, [], ◌∷◌, ◌++◌, length, get_or, take, drop, sym, ap, ◌∙◌, subst, inl, inr, arith}
+use Rattle.std.proofs.Common.{◌≡◌, ◌<◌, ◌≤◌, ◌+◌, ◌-◌, ℕ, Bool, List, [], ◌∷◌, ◌++◌, length, get_or, take, drop, sym, ap, ◌∙◌, subst, inl, inr, arith}
 use Rattle.std.specs.Prelude.{Some, slice_get}
 use Rattle.std.proofs.lemmas.Bool.{cases_lt}
-use Rattle.std.proofs.lemmas.List.{get_or-drop, get_or-take, get_or_append_left, get_or_default, get_or_push, length_push, length-take-le}
+use Rattle.std.proofs.lemmas.List.{drop-drop, get_or-drop, get_or-take, get_or_append_left, get_or_default, get_or_push, length_push, length-take-le}
 use Rattle.std.proofs.lemmas.Option.{get_or_from_slice_get}
 use Rattle.atomic_table.specs.Seated.{TableId}
 use Rattle.dt_shared.specs.Passes.{AreNumbered, PassState, new_pass}
@@ -58,3 +58,18 @@ first_passes id count last all passes numbered one_more are = record {
       ap (λ ps. get_or ps k p) are ∙ get_or-take count all k p within
       ∙ get_or_from_slice_get all k (new_pass id k) p (numbered.each k (omega (arith, within, one_more)));
 }
+
+-- and the last one
+pub last_pass : (id : TableId) (count last len : ℕ) (all : List PassState) (pass : PassState) → AreNumbered id last all → last ≡ count + 1
+    → len ≡ last → ((d : PassState) → 0 < len → Some pass ≡ Some (get_or all (len - 1) d)) → pass ≡ new_pass id count
+last_pass id count last len all pass numbered one_more size is =
+    let taken : Some pass ≡ Some (get_or all (len - 1) pass) = is pass (omega (arith, one_more, size)) in
+    let at : len - 1 ≡ count = omega (arith, one_more, size) in
+    let same : get_or all (len - 1) pass ≡ get_or all count pass = ap (λ n. get_or all n pass) at in
+    let its : get_or all count pass ≡ new_pass id count
+    = get_or_from_slice_get all count (new_pass id count) pass (numbered.each count (omega (arith, one_more))) in
+    cc
+
+-- what is left behind one more
+pub rest_left : {X : Type 0} (xs left more : List X) (k : ℕ) → left ≡ drop k xs → more ≡ drop 1 left → more ≡ drop (k + 1) xs
+rest_left xs left more k rest gone = gone ∙ ap (λ ys. drop 1 ys) rest ∙ drop-drop 1 k xs

@@ -46,3 +46,11 @@ still_paired old new t same pair = record {
 
 pub met_before : (old new : List Feed) (t : ℕ × Take) → AreSameFeeds old new → t.0 < length old → IsMet new t → IsMet old t
 met_before old new t same within met = λ f. let left = met f in (left.0, left.1 ∙ same.records t.0 f within)
+
+-- the ends of one queue came together
+pub met_one : (initial feeds : List Feed) (hart k : ℕ) (old new : Feed) (take after : Take) (left : List Record) → AreSameFeeds initial feeds
+    → k ≡ hart → hart < length initial → ((d : Feed) → get_or feeds k d ≡ old) → taken after ++ left ≡ fed new → fed new ≡ fed old
+    → taken after ≡ taken take → IsMet initial (hart, take)
+met_one initial feeds hart k old new take after left same at within is all records took = λ f.
+    let here : fed (get_or feeds k f) ≡ fed (get_or initial hart f) = ap (λ n. fed (get_or feeds n f)) at ∙ same.records hart f within in
+    (left, ap (λ rs. rs ++ left) (sym took) ∙ all ∙ records ∙ sym (ap fed (is f)) ∙ here)

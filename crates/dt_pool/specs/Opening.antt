@@ -1,5 +1,5 @@
 -- How the harts of a file are handed to workers. All of it is this project's own.
-use Rattle.std.specs.Prelude.{◌≡◌, ◌≢◌, ◌<◌, ◌%◌, ◌++◌, ℕ, Bool, List, [], ◌∷◌, length, slice_index_or, All, Any, Vec}
+use Rattle.std.specs.Prelude.{◌≡◌, ◌≢◌, ◌<◌, ◌≤◌, ◌%◌, ◌++◌, ℕ, Bool, List, [], ◌∷◌, length, slice_index_or, All, Any, Vec}
 use Rattle.std.specs.declared.alloc.Global.{Global}
 use Rattle.atomic_table.specs.Seated.{TableId}
 use Rattle.dt_queue.specs.declared.ends.Feed.{Feed}
@@ -53,6 +53,7 @@ pub record AreInOrder (id : TableId) (workers : ℕ) (passes : List PassState) :
 pub record AreOpened (image : List ℕ) (wide : Bool) (harts : ℕ) (id : TableId) (workers : ℕ) (feeds : List Feed) (made : List WorkerView) : Type 0 where
   pub hands : List Hand
   pub passes : List PassState
+  pub some : 1 ≤ workers
   pub are_hands : AreHands workers harts feeds hands
   pub in_order : AreInOrder id workers passes
   pub are_made : AreMade image wide harts passes hands made
