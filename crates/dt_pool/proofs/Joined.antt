@@ -339,3 +339,14 @@ made_of_this image wide harts id workers first made o k w within =
 pub ends_count : (image : List ℕ) (wide : Bool) (harts : ℕ) (id : TableId) (workers : ℕ) (first : List Feed) (made : List WorkerView)
     (ends : List WorkerEnd) → AreOpened image wide harts id workers first made → AreEnds made ends → length ends ≡ workers
 ends_count image wide harts id workers first made ends o are = as_many_ends made ends are ∙ o.are_made.size ∙ o.in_order.size
+
+-- the joined harts of the lists that were gathered
+pub gathered_harts : PoppedEndMeansAll → (image : List ℕ) (wide : Bool) (harts : ℕ) (id : TableId) (told : Option (List Next)) (p : Progress)
+    (feeds : List Feed) (ends : List WorkerEnd) (feeder : PassState) (passes : List PassState) (of_harts : List HartEnd) → harts ≤ 8
+    → (run : HaveRun image wide harts id told p feeds ends feeder) → All (λ e. has_finished e ≡ true) ends
+    → All (λ e. All (IsMet feeds) e.takes.items) ends → passes ≡ all_passes ends feeder → of_harts ≡ flat_map (λ e. e.harts.items) ends
+    → AreJoinedHarts image wide harts run.whole.given passes of_harts
+gathered_harts law image wide harts id told p feeds ends feeder passes of_harts few run finished met passes_are harts_are =
+    subst (λ (ps : List PassState). AreJoinedHarts image wide harts run.whole.given ps of_harts) (sym passes_are)
+    (subst (λ (hs : List HartEnd). AreJoinedHarts image wide harts run.whole.given (all_passes ends feeder) hs) (sym harts_are)
+    (joined_harts law image wide harts id told p feeds ends feeder few run finished met))

@@ -67,6 +67,7 @@ loop-end-preserved c =
       λ finished. inv.6 (All-same Finished items (end ∷ rest) next
           (All-cons Finished end rest (not_either end.refused end.stopped c.if-end.false c.if-end-2.false) finished)),
       λ met.
-          let here : Met end = λ k t within. met_before initial feeds _ same (pairs k t within).within (c.meet_all.ensures.met k t within) in
+          let here : Met end = λ k t within.
+              met_before initial feeds (get_or end.takes.items k t) same (pairs k t within).within (c.meet_all.ensures.met k t within) in
           inv.7 (All-same Met items (end ∷ rest) next (All-cons Met end rest here met)),
     )
