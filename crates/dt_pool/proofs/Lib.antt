@@ -3,3 +3,4 @@ mod Making
 mod Ended
 mod Joined
 mod Meeting
+mod Runs
