@@ -1,16 +1,15 @@
-use Rattle.std.proofs.Common.{ℕ, ◌≡◌, ◌<◌, ◌||◌, Bool, true, false, not, List, [], ◌∷◌, ◌++◌, length, get_or, zero, suc, All, refl, sym, ap, ◌∙◌, subst, arith}
+use Rattle.std.proofs.Common.{ℕ, ◌≡◌, ◌<◌, ◌||◌, Bool, true, false, not, List, [], ◌∷◌, length, get_or, zero, suc, All, refl, sym, ap, ◌∙◌, subst, arith}
 use Rattle.std.specs.Prelude.{IsTrue}
 use Rattle.std.proofs.lemmas.Bool.{not-true, false≢true}
 use Rattle.std.proofs.lemmas.List.{append-nil}
 use mathlib.Core.List.{IsPrefix}
 use Rattle.dt_record.specs.declared.records.Record.{Record}
 use Rattle.dt_record.specs.declared.writes.Note.{Note}
-use Rattle.dt_record.specs.declared.writes.Write.{Write}
 use Rattle.dt_record.specs.Marks.{HasPassed, PassedGoesOn}
 use Rattle.dt_queue.specs.declared.ends.Take.{Take}
 use Rattle.dt_record.specs.Writes.{by_key}
 use Rattle.dt_core.specs.Notes.{announced}
-use Rattle.dt_intake.specs.Intakes.{IntakeView, new_intake}
+use Rattle.dt_intake.specs.Intakes.{IntakeView}
 use Rattle.dt_intake.specs.Told.{IsTold, own_notes}
 use Rattle.dt_intake.specs.Laws.{NothingIsTold}
 use Rattle.dt_settled.specs.AllWrites.{AreAllWrites, FrontsTellAllWrites, OrderlyWritesMayBeAll}
@@ -21,10 +20,10 @@ use Rattle.dt_shared.specs.Passes.{PassState, new_pass}
 use Rattle.dt_lane.specs.declared.ends.HartEnd.{HartEnd}
 use Rattle.dt_lane.specs.Lanes.{LaneView, judged_of, IsJudgedBy, is_done}
 use Rattle.dt_worker.specs.declared.ends.WorkerEnd.{WorkerEnd}
-use Rattle.dt_worker.specs.Ends.{has_finished, IsHartEnd, IsLaterPass, IsWorkerEnd}
+use Rattle.dt_worker.specs.Ends.{has_finished, IsHartEnd, IsWorkerEnd}
 use Rattle.dt_worker.specs.LaneEnds.{IsLaneEnd, AreLaneEnds, IsOpened, AreOpened}
 use Rattle.dt_worker.specs.Laws.{OutcomesOverItsOwnHistory}
-use Rattle.dt_worker.specs.Steps.{AreOthers, EachGoes, Goes, IsInStep, IsSteady, SameLane}
+use Rattle.dt_worker.specs.Steps.{Goes, IsInStep, IsSteady, SameLane}
 use Rattle.dt_worker.specs.Workers.{AreNewLanes, AreOfDifferentHarts, WorkerView}
 use Rattle.dt_worker.proofs.Steadiness.{prefix-chain, pass-further}
 

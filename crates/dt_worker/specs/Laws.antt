@@ -1,10 +1,7 @@
 -- Laws of what a worker gives back. All of it is this project's own.
-use Rattle.std.specs.Prelude.{◌≡◌, ◌<◌, ℕ, Bool, List, length, take, slice_index_or}
-use mathlib.Core.List.{IsPrefix}
-use Rattle.dt_record.specs.declared.records.Record.{Record}
+use Rattle.std.specs.Prelude.{◌≡◌, ◌<◌, ℕ, Bool, List, length, slice_index_or}
 use Rattle.dt_record.specs.declared.writes.Write.{Write}
 use Rattle.dt_record.specs.Writes.{by_key}
-use Rattle.dt_queue.specs.declared.ends.Take.{Take}
 use Rattle.dt_core.specs.Notes.{announced}
 use Rattle.dt_runs.specs.RunView.{outcome_in}
 use Rattle.dt_settled.specs.AllWrites.{AreOrderly}

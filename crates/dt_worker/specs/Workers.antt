@@ -1,7 +1,7 @@
 -- What contracts see of a worker. All of it is this project's own.
-use Rattle.std.specs.Prelude.{◌≡◌, ◌≢◌, ◌<◌, ℕ, Bool, List, [], length, slice_index_or, All}
+use Rattle.std.specs.Prelude.{◌≡◌, ◌≢◌, ◌<◌, ℕ, Bool, List, [], length, slice_index_or}
 use Rattle.dt_queue.specs.declared.ends.Take.{Take}
-use Rattle.dt_queue.specs.Queue.{take_queue, taken}
+use Rattle.dt_queue.specs.Queue.{take_queue}
 use Rattle.dt_intake.specs.Intakes.{new_intake}
 use Rattle.dt_lane.specs.Lanes.{LaneView}
 use Rattle.dt_record.specs.declared.writes.Note.{Note}

@@ -104,3 +104,16 @@ fn two_workers_judge_a_hart_each(rt: HostRuntime) -> Result<(), Fail> {
     assert!(rt; is_whole(&second, 1));
     Ok(())
 }
+
+/// The other hart is never told, so that only the stop ends the worker.
+#[test]
+fn a_worker_ends_at_a_stop(rt: HostRuntime) -> Result<(), Fail> {
+    let alloc = rt.alloc();
+    let (shared, first, mut second) = two_passes(alloc)?;
+    let worker = worker_of(alloc, 0, first)?;
+    shared.stop(&mut second);
+    let end = worker.run(&rt, &shared, &FreeGate);
+    assert!(rt; end.stopped);
+    assert!(rt; !end.refused);
+    Ok(())
+}

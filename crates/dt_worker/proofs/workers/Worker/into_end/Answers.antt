@@ -1,4 +1,4 @@
-use Rattle.std.proofs.Common.{◌≡◌, ap, subst, ◌∙◌}
+use Rattle.std.proofs.Common.{ap, subst, ◌∙◌}
 use Rattle.dt_worker.specs.LaneEnds.{AreLaneEnds}
 use Rattle.dt_worker.specs.Steps.{IsSteady}
 use Rattle.dt_worker.specs.Workers.{WorkerView}
