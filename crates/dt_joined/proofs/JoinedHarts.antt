@@ -78,7 +78,7 @@ joined_lists teller untold image wide harts file passes closed ends accounted ar
         told = λ hart within. about hart within (λ v. IsTold v (notes_in closed))
             (λ o. teller passes closed o.joined.lane.intake accounted (told_by_one image wide harts file passes o.end o.joined));
         no_other = λ hart beyond. untold passes closed hart accounted (are.no_other hart beyond);
-      }
+      },
     )
 
 -- ---- what came of one hart is its judgement
@@ -126,8 +126,8 @@ pub judged_harts : FileRecordsAreOwn → FileRecordsAreUsable → JoinedWritesMa
 judged_harts own usable may_be_all teller untold image wide harts file passes closed ends records are few accounted seen joined =
     let lists = joined_lists teller untold image wide harts file passes closed ends accounted joined in
     let of_pass : (p : PassState) → Contains passes p → AreAllWrites image harts (notes_in p.seen) (writes_of file) = λ p its.
-        let first : IsPrefix p.seen closed = All-contains (λ (p : PassState). IsPrefix p.seen closed) passes p seen its in
-        may_be_all image harts file (notes_in p.seen) (notes_in closed) lists.0 records are few lists.1 (prefix_map (λ (e : Entry). e.note) p.seen closed first) in
+    let first : IsPrefix p.seen closed = All-contains (λ (p : PassState). IsPrefix p.seen closed) passes p seen its in
+    may_be_all image harts file (notes_in p.seen) (notes_in closed) lists.0 records are few lists.1 (prefix_map (λ (e : Entry). e.note) p.seen closed first) in
     record {
       judged = λ k d within.
           let e = get_or ends k d in

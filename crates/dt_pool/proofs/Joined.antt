@@ -109,12 +109,12 @@ silent_worker : (image : List ℕ) (wide : Bool) (harts : ℕ) (id : TableId) (w
     → own_notes hart e.pass.own ≡ []
 silent_worker image wide harts id workers first number e b hart other =
     b.ended.no_other hart (λ k l within same.
-        let k_in : k < length b.handed = omega (arith, within, b.new.lanes.size) in
-        let t = some_of b.handed k k_in in
-        let handed : IsHanded workers harts first number (get_or b.handed k t) = b.hand.each k t k_in in
-        let new : IsNewLane (get_or b.handed k t) (get_or b.worker.lanes k l) = b.new.lanes.each k t l k_in in
-        let its : (get_or b.handed k t).0 ≡ hart = sym (ap (λ v. v.hart) new.intake) ∙ same in
-        other (subst (λ h. h < harts) its handed.within) (ap (λ h. h % workers) (sym its) ∙ handed.its))
+    let k_in : k < length b.handed = omega (arith, within, b.new.lanes.size) in
+    let t = some_of b.handed k k_in in
+    let handed : IsHanded workers harts first number (get_or b.handed k t) = b.hand.each k t k_in in
+    let new : IsNewLane (get_or b.handed k t) (get_or b.worker.lanes k l) = b.new.lanes.each k t l k_in in
+    let its : (get_or b.handed k t).0 ≡ hart = sym (ap (λ v. v.hart) new.intake) ∙ same in
+    other (subst (λ h. h < harts) its handed.within) (ap (λ h. h % workers) (sym its) ∙ handed.its))
 
 -- ---- one hart
 
@@ -188,17 +188,17 @@ paired image wide harts id told p feeds ends feeder run number e within =
     let number_in : number < run.workers = omega (arith, within, size, o.are_made.size, o.in_order.size) in
     let b = end_of image wide harts id run.workers run.first run.made ends o run.ended number e number_in in
     λ k t k_in.
-        let end = get_or ends number e in
-        let hart_in : k < length end.harts.items = omega (arith, k_in, b.ended.takes, b.ended.harts) in
-        let h = some_of end.harts.items k hart_in in
-        let j = hart_of image wide harts id run.workers run.first number end b k t h hart_in in
-        let take = get_or end.takes.items k t in
-        let there : j.lane.intake.hart < length run.first = omega (arith, j.within, o.are_hands.queues) in
-        record {
-          within = subst (λ n. n < length feeds) (sym j.take_hart) (omega (arith, there, run.whole.parts.size));
-          queue = λ f.
-              j.queue f ∙ sym (run.whole.parts.queues j.lane.intake.hart f there) ∙ ap (λ n. feed_queue (get_or feeds n f)) (sym j.take_hart);
-        }
+    let end = get_or ends number e in
+    let hart_in : k < length end.harts.items = omega (arith, k_in, b.ended.takes, b.ended.harts) in
+    let h = some_of end.harts.items k hart_in in
+    let j = hart_of image wide harts id run.workers run.first number end b k t h hart_in in
+    let take = get_or end.takes.items k t in
+    let there : j.lane.intake.hart < length run.first = omega (arith, j.within, o.are_hands.queues) in
+    record {
+      within = subst (λ n. n < length feeds) (sym j.take_hart) (omega (arith, there, run.whole.parts.size));
+      queue = λ f.
+          j.queue f ∙ sym (run.whole.parts.queues j.lane.intake.hart f there) ∙ ap (λ n. feed_queue (get_or feeds n f)) (sym j.take_hart);
+    }
 
 are_popped : (ended : Bool) (taken popped : List Record) → IsPopped ended taken popped → ArePoppedOf ended taken popped
 are_popped false taken popped is = is.open_still refl
@@ -257,8 +257,8 @@ joined_harts law image wide harts id told p feeds ends feeder few run finished m
           let all : l.popped ++ left.0 ≡ fed (get_or feeds hart f)
           = ap (λ rs. rs ++ left.0) (sym j.popped) ∙ left.1 ∙ ap (λ n. fed (get_or feeds n f)) j.take_hart in
           let has = law Whole told p wide run.first feeds run.whole hart f l.intake.ended l.intake.taken l.popped left.0 there
-              (λ same. omega (arith, same, j.within, few)) (o.are_hands.unfed hart f there) all j.is_lane.popped.plain
-              (are_popped l.intake.ended l.intake.taken l.popped j.is_lane.popped) in
+          (λ same. omega (arith, same, j.within, few)) (o.are_hands.unfed hart f there) all j.is_lane.popped.plain
+          (are_popped l.intake.ended l.intake.taken l.popped j.is_lane.popped) in
           record {
             lane = l;
             pass = end.pass;
@@ -270,10 +270,10 @@ joined_harts law image wide harts id told p feeds ends feeder few run finished m
             told = j.told;
             others = of_passes (λ q. q.number ≢ end.pass.number → own_notes hart q.own ≡ []) ends feeder
                 (λ m d m_in apart.
-                    let c : IsEndOf image wide harts id workers run.first m (get_or ends m d) = end_at m d m_in in
-                    silent_worker image wide harts id workers run.first m (get_or ends m d) c hart (λ below its.
-                        apart (number_is image wide harts id workers run.first m (get_or ends m d) c ∙ sym its ∙ j.its
-                        ∙ sym (number_is image wide harts id workers run.first number end b))))
+                let c : IsEndOf image wide harts id workers run.first m (get_or ends m d) = end_at m d m_in in
+                silent_worker image wide harts id workers run.first m (get_or ends m d) c hart (λ below its.
+                apart (number_is image wide harts id workers run.first m (get_or ends m d) c ∙ sym its ∙ j.its
+                ∙ sym (number_is image wide harts id workers run.first number end b))))
                 (λ apart. idle hart);
             judged = j.judged;
             outcome_is = j.outcome_is;
@@ -300,7 +300,7 @@ joined_harts law image wide harts id told p feeds ends feeder few run finished m
           (k, get_or end.harts.items k h, k_in, get_or_default end.harts.items k (get_or end.harts.items k h) h k_in, its);
       no_other = λ hart above. of_passes (λ q. own_notes hart q.own ≡ []) ends feeder
           (λ m d m_in.
-              silent_worker image wide harts id workers run.first m (get_or ends m d) (end_at m d m_in) hart (λ below its. omega (arith, below, above)))
+          silent_worker image wide harts id workers run.first m (get_or ends m d) (end_at m d m_in) hart (λ below its. omega (arith, below, above)))
           (idle hart);
     }
 
@@ -313,8 +313,8 @@ all_of_this image wide harts id told p feeds ends feeder run =
     let count : length ends ≡ run.workers = as_many_ends run.made ends run.ended ∙ o.are_made.size ∙ o.in_order.size in
     of_passes (λ q. q.of ≡ id) ends feeder
     (λ k e within.
-        pass_of image wide harts id run.workers run.first k (get_or ends k e)
-        (end_of image wide harts id run.workers run.first run.made ends o run.ended k e (omega (arith, within, count))))
+    pass_of image wide harts id run.workers run.first k (get_or ends k e)
+    (end_of image wide harts id run.workers run.first run.made ends o run.ended k e (omega (arith, within, count))))
     (ap (λ (q : PassState). q.of) run.idle)
 
 -- all records of the file came, and each to its hart

@@ -145,7 +145,7 @@ fn work_within<'s, E, R: Threads + Wait + Sync, Q: Probes + Drop, G: Gate + Sync
         IsFeeding result.feeder.end told (Q.progress result.feeder.probes) wide feeder.feeds.items result.feeder.feeds.items }
     ensures refused { let told = with_header (length feeder.feeds.items) (Q.progress feeder.probes).wide (Q.left feeder.probes) in
         result.started ≡ true → IfRefused result.feeder.end (λ r. r ≢ refusal.ReadFault → r ≢ refusal.OutOfMemory
-            → IfSome told (λ answers. refusal_in answers ≡ Some r)) }
+        → IfSome told (λ answers. refusal_in answers ≡ Some r)) }
     ensures refused_at { result.started ≡ true → IfRefused result.feeder.end (λ r. IsRefusedAt (Q.progress result.feeder.probes) r) }
     ensures fault { result.started ≡ true → result.feeder.end ≡ FeedEnd.Refused refusal.ReadFault
         → Rose (Q.faults feeder.probes) (Q.faults result.feeder.probes) }
@@ -204,7 +204,7 @@ pub(crate) fn run_all<R: Threads + Wait + Sync, Q: Probes + Drop, G: Gate + Sync
         IsFeeding result.feeder.end told (Q.progress result.feeder.probes) wide feeder.feeds.items result.feeder.feeds.items }
     ensures refused { let told = with_header (length feeder.feeds.items) (Q.progress feeder.probes).wide (Q.left feeder.probes) in
         result.started ≡ true → IfRefused result.feeder.end (λ r. r ≢ refusal.ReadFault → r ≢ refusal.OutOfMemory
-            → IfSome told (λ answers. refusal_in answers ≡ Some r)) }
+        → IfSome told (λ answers. refusal_in answers ≡ Some r)) }
     ensures refused_at { result.started ≡ true → IfRefused result.feeder.end (λ r. IsRefusedAt (Q.progress result.feeder.probes) r) }
     ensures fault { result.started ≡ true → result.feeder.end ≡ FeedEnd.Refused refusal.ReadFault
         → Rose (Q.faults feeder.probes) (Q.faults result.feeder.probes) }

@@ -93,10 +93,13 @@ fn any_number_of_workers_answers_the_same(rt: HostRuntime) -> Result<(), Fail> {
         hart: 1,
         seq: 0,
     };
-    let Ok(Checked {
-        verdict: Verdict::Fail(failure),
-        ..
-    }) = one else {
+    let Ok(
+        Checked {
+            verdict: Verdict::Fail(failure),
+            ..
+        },
+    ) = one
+    else {
         panic!(rt; "no failure");
     };
     assert_eq!(rt; (failure.key, failure.reason), (failing, Reason::Value));
@@ -248,7 +251,9 @@ impl Gate for Hold {
                 self.until(&self.judging);
             }
             GateEvent::Judged {
-                worker: 0, n: 0, ..
+                worker: 0,
+                n: 0,
+                ..
             } => {
                 self.judging.store(1, Ordering::SeqCst);
                 self.until(&self.took);

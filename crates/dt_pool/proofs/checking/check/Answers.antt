@@ -47,17 +47,17 @@ checked_is g c =
     let started : ran.started ≡ true = sym c.into_parts-lent.ensures.started ∙ c.if-not-started.false in
     let run : HaveRun c.args.image.now header.wide header.harts id (with_header header.harts header.wide before) p left.feeds.items left.ends.items left.pass
     = have_run c.args.image.now header.wide header.harts id c.args.workers before p o.feeds.items ran.feeder.feeds.items left.feeds.items
-        o.workers.items c.in_ok-crew.crew.workers.items ran.ends.items left.ends.items left.pass
-        c.in_ok-shared.ensures.opened c.in_ok-crew.ensures.workers (c.run_all.ensures.ends started) c.into_parts-lent.ensures.ends
-        (record {
-          end = ran.feeder.end;
-          also_wide = (g.P.Probes.progress c.read_header.new.probes).wide;
-          fed = c.run_all.ensures.fed started;
-          wide_is = c.in_ok-header.ensures.behind.wide_is;
-          end_is = sym c.into_parts-lent.ensures.end ∙ c.in-Whole.is;
-        })
-        c.into_parts-lent.ensures.feeds
-        (idle_after id c.args.workers o.pass ran.feeder.pass left.pass c.in_ok-shared.ensures.pass c.run_all.ensures.pass c.into_parts-lent.ensures.pass) in
+    o.workers.items c.in_ok-crew.crew.workers.items ran.ends.items left.ends.items left.pass
+    c.in_ok-shared.ensures.opened c.in_ok-crew.ensures.workers (c.run_all.ensures.ends started) c.into_parts-lent.ensures.ends
+    (record {
+      end = ran.feeder.end;
+      also_wide = (g.P.Probes.progress c.read_header.new.probes).wide;
+      fed = c.run_all.ensures.fed started;
+      wide_is = c.in_ok-header.ensures.behind.wide_is;
+      end_is = sym c.into_parts-lent.ensures.end ∙ c.in-Whole.is;
+    })
+    c.into_parts-lent.ensures.feeds
+    (idle_after id c.args.workers o.pass ran.feeder.pass left.pass c.in_ok-shared.ensures.pass c.run_all.ensures.pass c.into_parts-lent.ensures.pass) in
     subst (λ (told : Option (List Next)). IsCheckOf c.args.image.now told p c.in_ok-answer-in-Whole.field-0) (sym c.in_ok-header.ensures.told)
     (c.in_ok-answer-in-Whole.ensures c.args.image.now header.wide (with_header header.harts header.wide before) p run)
 

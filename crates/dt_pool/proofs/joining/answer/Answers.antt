@@ -40,8 +40,8 @@ conclude_closed-requires-clause-joined c =
       r.4.whole.given,
       (came_of r.0 r.1 c.args.harts id r.2 r.3 c.args.feeds.items ends c.args.pass r.4).streamed,
       gathered_harts c.popped_end_means_all.ensures r.0 r.1 c.args.harts id r.2 r.3 c.args.feeds.items ends c.args.pass c.push.new.self.items
-      c.deref.result.now c.requires.few_harts r.4 c.in_ok-of_harts.ensures.finished c.in_ok-of_harts.ensures.met passes
-      (c.deref.ensures.value ∙ c.in_ok-of_harts.ensures.harts),
+          c.deref.result.now c.requires.few_harts r.4 c.in_ok-of_harts.ensures.finished c.in_ok-of_harts.ensures.met passes
+          (c.deref.ensures.value ∙ c.in_ok-of_harts.ensures.harts),
     )
 
 pub returns : goal.returns
@@ -52,15 +52,15 @@ returns c =
     = c.in_ok-push.ensures.items ∙ ap (λ (ps : List PassState). ps ++ c.args.pass ∷ []) c.in_ok-of_harts.ensures.passes in
     IfOk-weaker c.conclude_closed.result _ _
     (λ checked concludes image wide told p run.
-        let came = came_of image wide c.args.harts id told p c.args.feeds.items ends c.args.pass run in
-        record {
-          harts = c.args.harts;
-          wide = wide;
-          records = run.whole.given;
-          came = came;
-          is_checked = concludes image wide run.whole.given came.streamed
-              (gathered_harts c.popped_end_means_all.ensures image wide c.args.harts id told p c.args.feeds.items ends c.args.pass c.push.new.self.items
-              c.deref.result.now c.requires.few_harts run c.in_ok-of_harts.ensures.finished c.in_ok-of_harts.ensures.met passes
-              (c.deref.ensures.value ∙ c.in_ok-of_harts.ensures.harts));
-        })
+    let came = came_of image wide c.args.harts id told p c.args.feeds.items ends c.args.pass run in
+    record {
+      harts = c.args.harts;
+      wide = wide;
+      records = run.whole.given;
+      came = came;
+      is_checked = concludes image wide run.whole.given came.streamed
+          (gathered_harts c.popped_end_means_all.ensures image wide c.args.harts id told p c.args.feeds.items ends c.args.pass c.push.new.self.items
+          c.deref.result.now c.requires.few_harts run c.in_ok-of_harts.ensures.finished c.in_ok-of_harts.ensures.met passes
+          (c.deref.ensures.value ∙ c.in_ok-of_harts.ensures.harts));
+    })
     c.conclude_closed.ensures

@@ -11,14 +11,14 @@ pub returns : goal.returns
 returns c =
     IfOk-weaker c.conclude.result _ _
     (λ checked concludes image wide file streamed joined.
-        let are : AreFileRecords file = record {
-          harts = c.args.harts;
-          few_harts = streamed.few_harts;
-          each = streamed.each;
-          few_records = streamed.few_records;
-          few_writes = streamed.few_writes;
-        } in
-        concludes image wide file are
-        (c.joined_harts_are_judged.ensures image wide c.args.harts file c.args.passes.items c.in-Ok.field-0.items c.args.ends.now
-        streamed.each are streamed.few_records (record { own = c.in-Ok.ensures.own; numbers = c.in-Ok.ensures.numbers }) c.in-Ok.ensures.seen joined))
+    let are : AreFileRecords file = record {
+      harts = c.args.harts;
+      few_harts = streamed.few_harts;
+      each = streamed.each;
+      few_records = streamed.few_records;
+      few_writes = streamed.few_writes;
+    } in
+    concludes image wide file are
+    (c.joined_harts_are_judged.ensures image wide c.args.harts file c.args.passes.items c.in-Ok.field-0.items c.args.ends.now
+    streamed.each are streamed.few_records (record { own = c.in-Ok.ensures.own; numbers = c.in-Ok.ensures.numbers }) c.in-Ok.ensures.seen joined))
     c.conclude.ensures

@@ -57,17 +57,17 @@ loop-end-preserved c =
       same_further initial feeds _ same c.meet_all.ensures.same,
       All-rest Paired end rest items next inv.3,
       ap (λ (ps : List PassState). ps ++ map pass_of rest) c.in_ok-push.ensures.items
-      ∙ append_assoc c.loop-end.passes.items (end.pass ∷ []) (map pass_of rest)
-      ∙ ap (λ (es : List WorkerEnd). c.loop-end.passes.items ++ map pass_of es) (sym next)
-      ∙ inv.4,
+          ∙ append_assoc c.loop-end.passes.items (end.pass ∷ []) (map pass_of rest)
+          ∙ ap (λ (es : List WorkerEnd). c.loop-end.passes.items ++ map pass_of es) (sym next)
+          ∙ inv.4,
       ap (λ (hs : List HartEnd). hs ++ flat_map harts_of rest) c.in_ok-append.ensures.items
-      ∙ append_assoc c.loop-end.harts.items end.harts.items (flat_map harts_of rest)
-      ∙ ap (λ (es : List WorkerEnd). c.loop-end.harts.items ++ flat_map harts_of es) (sym next)
-      ∙ inv.5,
+          ∙ append_assoc c.loop-end.harts.items end.harts.items (flat_map harts_of rest)
+          ∙ ap (λ (es : List WorkerEnd). c.loop-end.harts.items ++ flat_map harts_of es) (sym next)
+          ∙ inv.5,
       λ finished. inv.6 (All-same Finished items (end ∷ rest) next
           (All-cons Finished end rest (not_either end.refused end.stopped c.if-end.false c.if-end-2.false) finished)),
       λ met.
           let here : Met end = λ k t within.
-              met_before initial feeds (get_or end.takes.items k t) same (pairs k t within).within (c.meet_all.ensures.met k t within) in
+          met_before initial feeds (get_or end.takes.items k t) same (pairs k t within).within (c.meet_all.ensures.met k t within) in
           inv.7 (All-same Met items (end ∷ rest) next (All-cons Met end rest here met)),
     )

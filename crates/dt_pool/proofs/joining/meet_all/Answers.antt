@@ -45,6 +45,6 @@ loop-hart-preserved c =
       λ met.
           let here : IsMet initial t
           = met_one initial feeds c.in-Some.hart k old c.meet.new.f c.in-Some.take c.meet.new.t (known_items c.meet.new.t) same at pair.within is
-              c.meet.ensures.all c.meet.ensures.fed c.meet.ensures.taken in
+          c.meet.ensures.all c.meet.ensures.fed c.meet.ensures.taken in
           inv.4 (All-same (IsMet initial) items (t ∷ rest) next (All-cons (IsMet initial) t rest here met)),
     )

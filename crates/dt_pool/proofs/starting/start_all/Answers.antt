@@ -23,11 +23,11 @@ loop-worker-preserved g c =
       tt,
       tt,
       ap (λ (hs : List (PromisedHandle WorkerEnd Promised)). map promised hs ++ rest) c.push_reserved.ensures.items
-      ∙ ap (λ (ws : List WorkerView). ws ++ rest) (map-append promised handles (handle ∷ []))
-      ∙ append_assoc (map promised handles) (promised handle ∷ []) rest
-      ∙ ap (λ (w : WorkerView). map promised handles ++ w ∷ rest) same
-      ∙ ap (λ (ws : List WorkerView). map promised handles ++ ws) (sym next)
-      ∙ inv.2,
+          ∙ ap (λ (ws : List WorkerView). ws ++ rest) (map-append promised handles (handle ∷ []))
+          ∙ append_assoc (map promised handles) (promised handle ∷ []) rest
+          ∙ ap (λ (w : WorkerView). map promised handles ++ w ∷ rest) same
+          ∙ ap (λ (ws : List WorkerView). map promised handles ++ ws) (sym next)
+          ∙ inv.2,
       omega (arith, inv.3, c.push_reserved.ensures.len, c.in-Some.ensures.steps.1),
       c.push_reserved.ensures.capacity ∙ inv.4,
       All-rest (λ (w : WorkerView). w.pass.of ≡ identity c.args.shared.now) worker rest items next inv.5,
