@@ -6,5 +6,7 @@ mod checking;
 mod joining;
 mod opening;
 mod starting;
+#[cfg(test)]
+mod tests;
 
 pub use checking::check;
