@@ -1,2 +1,3 @@
 mod Tellers
+mod JoinedHarts
 mod Joining

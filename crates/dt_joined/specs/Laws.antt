@@ -26,6 +26,8 @@ use Rattle.dt_verdict.specs.declared.verdicts.Outcome.{Outcome}
 use Rattle.dt_verdict.specs.Verdict.{verdict_of, IsVerdict}
 use Rattle.dt_pass.specs.Checked.{IsChecked, limit_of}
 use Rattle.dt_pass.specs.Running.{AreRunsOf, IsRunOf}
+use Rattle.dt_lane.specs.declared.ends.HartEnd.{HartEnd}
+use Rattle.dt_joined.specs.Ends.{AreEndsOf, AreFew, AreJoinedHarts}
 use Rattle.dt_joined.specs.Joined.{AreAccounted, IsToldByOne, AreJoined, joined_lists, IsJudgedHart}
 
 -- where the passes account for the history and one of them tells a hart, the history tells it
@@ -49,6 +51,19 @@ abbrev pub JoinedWritesMayBeAll : Type 0
 JoinedWritesMayBeAll = (image : List ℕ) (harts : ℕ) (file : List Record) (front history : List Note) (views : ℕ → IntakeView)
     → AreRecords harts no_stamps file → AreFileRecords file → length file ≤ RECORD_LIMIT → AreJoined harts file history views
     → IsPrefix front history → AreAllWrites image harts front (writes_of file)
+
+-- Where the passes account for the history, and each has seen a front of it, what came of the joined harts is their judgement over the
+-- file.
+abbrev pub JoinedHartsAreJudged : Type 0
+JoinedHartsAreJudged = (image : List ℕ) (wide : Bool) (harts : ℕ) (file : List Record) (passes : List PassState) (closed : List Entry)
+    (ends : List HartEnd) → AreRecords harts no_stamps file → AreFileRecords file → length file ≤ RECORD_LIMIT
+    → AreAccounted passes closed → All (λ p. IsPrefix p.seen closed) passes → AreJoinedHarts image wide harts file passes ends
+    → AreEndsOf image wide file ends
+
+-- no joined hart has more records than a file may have
+abbrev pub JoinedHartsAreFew : Type 0
+JoinedHartsAreFew = (image : List ℕ) (wide : Bool) (harts : ℕ) (file : List Record) (passes : List PassState) (ends : List HartEnd)
+    → length file ≤ RECORD_LIMIT → AreJoinedHarts image wide harts file passes ends → AreFew ends
 
 -- what came of a hart is its run to the end, as one thread judges it
 abbrev pub JudgedHartsHaveRuns : Type 0

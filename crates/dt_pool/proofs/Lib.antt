@@ -1,0 +1,6 @@
+mod Hands
+mod Making
+mod Ended
+mod Joined
+mod Meeting
+mod Runs
