@@ -24,7 +24,7 @@ use Rattle.dt_reading.specs.Reading.{refusal_in}
 use Rattle.dt_top.specs.declared.replies.Reply.{Reply}
 use Rattle.dt_top.specs.declared.replies.Reply.TheVariants as reply
 use Rattle.dt_top.specs.Answer.{Answer, answer, verdict_status, usage_answer, too_long_answer, image_fault_answer, memory_answer, refusal_answer, refusal_line, refusal_status, Fits, IsAnswer, IsRefused, IsReport, IsTooLong}
-use Rattle.dt_top.specs.Replies.{answer_by, CameOf, IsPassReply, IsPut, JudgesFile}
+use Rattle.dt_top.specs.Replies.{answer_by, CameOf, IsJudgedReply, IsPut, JudgesFile}
 use Rattle.dt_top.specs.Running.{Outside, outside, HasFailed, IsGiven, MayWrite, Ran, StopsWith}
 use Rattle.dt_top.specs.Tasks.{WhereTold}
 use Rattle.dt_top.proofs.Checking.{not_refused}
@@ -428,7 +428,7 @@ of_report asked i image probes told v text judges fits known tells is = record {
 
 of_known : (asked : Asked) (i : List ℕ) (image probes : Outside) (told : Option (List Next)) (r : Reply) → JudgesFile asked.task
     → Fits i → IfSome image.before (λ bytes. bytes ≡ i) → AreToldOf probes.before told
-    → IsPassReply i asked.sources told probes.faults_before probes.faults_after r → CameOf (Some asked) image probes (answer_by r)
+    → IsJudgedReply i asked.sources told probes.faults_before probes.faults_after r → CameOf (Some asked) image probes (answer_by r)
 of_known asked i image probes told reply.Usage judges fits known tells said = absurd said
 of_known asked i image probes told reply.TooLong judges fits known tells said = absurd said
 of_known asked i image probes told reply.ReadFaultImage judges fits known tells said = absurd said
@@ -440,8 +440,8 @@ of_known asked i image probes told reply.OutOfMemory judges fits known tells sai
 
 pub of_pass : (asked : Asked) (i : List ℕ) (image probes : Outside) (sources : Bool) (r : Reply) → JudgesFile asked.task → asked.sources ≡ sources
     → Fits i → IfSome image.before (λ bytes. let x : Result (List ℕ) ImageRefusal = Ok i in x ≡ loaded bytes)
-    → (told : Option (List Next)) × AreToldOf probes.before told × IsPassReply i sources told probes.faults_before probes.faults_after r
+    → (told : Option (List Next)) × AreToldOf probes.before told × IsJudgedReply i sources told probes.faults_before probes.faults_after r
     → CameOf (Some asked) image probes (answer_by r)
 of_pass asked i image probes sources r judges wants fits loads said =
     of_known asked i image probes said.0 r judges fits (some_map image.before _ _ loads (λ bytes e. fitting bytes i e)) said.1
-    (subst (λ (s : Bool). IsPassReply i s said.0 probes.faults_before probes.faults_after r) (sym wants) said.2)
+    (subst (λ (s : Bool). IsJudgedReply i s said.0 probes.faults_before probes.faults_after r) (sym wants) said.2)

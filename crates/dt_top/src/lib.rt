@@ -2,6 +2,8 @@
 //! `difftest` ends with.
 #![tactic(auto)]
 
+mod calls;
+mod judging;
 mod laws;
 mod replies;
 mod running;
@@ -10,5 +12,5 @@ mod tests;
 mod top;
 
 pub use dt_words::{Command, Task, WordsRefusal, parse_words};
-pub use laws::{a_run_has_an_answer, a_run_has_one_answer};
-pub use top::run_plain;
+pub use laws::{a_run_has_an_answer, a_run_has_one_answer, check_answers_as_pass};
+pub use top::{run_check, run_plain};

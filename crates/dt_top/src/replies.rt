@@ -5,11 +5,11 @@ ghost use Rattle.dt_record.specs.declared.streams.Next.{Next};
 ghost use Rattle.dt_probe_file.specs.Told.{AreToldOf};
 ghost use Rattle.dt_words.specs.Table.{Asked};
 ghost use Rattle.dt_top.specs.Answer.{refusal_line, refusal_status, verdict_status};
-ghost use Rattle.dt_top.specs.Replies.{CameOf, IsPassReply, IsRefusalReply, IsReportReply, JudgesFile, answer_by};
+ghost use Rattle.dt_top.specs.Replies.{CameOf, IsJudgedReply, IsRefusalReply, IsReportReply, JudgesFile, answer_by};
 ghost use Rattle.dt_top.specs.Running.{outside};
 
+use crate::judging::Judging;
 use dt_image::{Image, ImageRefusal, load};
-use dt_pass::pass;
 use dt_probe_file::{FileProbes, Room};
 use dt_record::What;
 use dt_report::{Text, report};
@@ -122,16 +122,22 @@ fn refusal_reply(alloc: Global, refusal: Refusal) -> Reply
 }
 
 /// The reply to an image and a probe file.
-fn pass_reply<P: Source>(alloc: Global, sources: bool, image: &Image, probes: &mut P) -> Reply
+fn judged_reply<J: Judging, P: Source>(
+    judging: &J,
+    alloc: Global,
+    sources: bool,
+    image: &Image,
+    probes: &mut P,
+) -> Reply
     ensures said { (told : Option (List Next)) × AreToldOf (P.left probes.old) told
-        × IsPassReply image.now sources told (P.faults probes.old) (P.faults probes.new) result }
+        × IsJudgedReply image.now sources told (P.faults probes.old) (P.faults probes.new) result }
     ensures never_falls { P.faults probes.old ≤ P.faults probes.new }
 {
     let Ok(room) = Room::new(alloc) else {
         return Reply::OutOfMemory;
     };
     let mut stream = FileProbes::within(room, probes);
-    let answer = pass(alloc, image, &mut stream);
+    let answer = judging.judge(alloc, image, &mut stream);
     stream.into_source();
     match answer {
         Ok(checked) => report_reply(alloc, &checked, sources),
@@ -141,7 +147,8 @@ fn pass_reply<P: Source>(alloc: Global, sources: bool, image: &Image, probes: &m
 
 /// The reply to what the sources of an image and a probe file give. Where the image is refused, the
 /// probe file is not read.
-pub fn check_reply<I: Source, P: Source>(
+pub fn check_reply<J: Judging, I: Source, P: Source>(
+    judging: &J,
     alloc: Global,
     sources: bool,
     image: &mut I,
@@ -154,7 +161,7 @@ pub fn check_reply<I: Source, P: Source>(
     ensures probes_never_falls { P.faults probes.old ≤ P.faults probes.new }
 {
     match load(alloc, image) {
-        Ok(image) => pass_reply(alloc, sources, &image, probes),
+        Ok(image) => judged_reply(judging, alloc, sources, &image, probes),
         Err(ImageRefusal::TooLong) => Reply::TooLong,
         Err(ImageRefusal::ReadFault) => Reply::ReadFaultImage,
         Err(ImageRefusal::OutOfMemory) => Reply::OutOfMemory,

@@ -6,7 +6,7 @@ use Rattle.dt_top.proofs.replies.check_reply.Goals as goal
 
 pub returns-in-Ok-clause-came : goal.returns-in-Ok-clause-came
 returns-in-Ok-clause-came g c = λ asked judges wants.
-    of_pass asked c.in-Ok.image _ _ c.args.sources c.pass_reply.result judges wants c.in-Ok.ensures.within (c.in-Ok.ensures.answer (λ e. cc) (λ e. cc)) c.pass_reply.ensures.said
+    of_pass asked c.in-Ok.image _ _ c.args.sources c.judged_reply.result judges wants c.in-Ok.ensures.within (c.in-Ok.ensures.answer (λ e. cc) (λ e. cc)) c.judged_reply.ensures.said
 
 pub returns-in-Err-TooLong-clause-came : goal.returns-in-Err-TooLong-clause-came
 returns-in-Err-TooLong-clause-came g c = λ asked judges wants.

@@ -4,7 +4,7 @@ use Rattle.dt_probe_file.specs.Computing.{answers_of}
 use Rattle.dt_verdict.specs.declared.answers.Refusal.{Refusal}
 use Rattle.dt_top.proofs.Checking.{checked_said, refused_said}
 use Rattle.dt_top.proofs.Tasks.{are_told}
-use Rattle.dt_top.proofs.replies.pass_reply.Goals as goal
+use Rattle.dt_top.proofs.replies.judged_reply.Goals as goal
 
 pub returns-in-Ok-answer-clause-said : goal.returns-in-Ok-answer-clause-said
 returns-in-Ok-answer-clause-said g c = (
