@@ -2,14 +2,13 @@
 //! `difftest` ends with.
 #![tactic(auto)]
 
-mod calls;
-mod judging;
 mod laws;
 mod replies;
 mod running;
 #[cfg(test)]
 mod tests;
 mod top;
+mod workers;
 
 pub use dt_words::{Command, Task, WordsRefusal, parse_words};
 pub use laws::{a_run_has_an_answer, a_run_has_one_answer, check_answers_as_pass};

@@ -1,15 +1,15 @@
 //! What the program comes to, before it writes anything.
-ghost use Rattle.std.specs.Prelude.{◌≡◌, ◌≤◌, IfOk, List, Option, Some};
+ghost use Rattle.std.specs.Prelude.{◌≡◌, ◌≤◌, IfErr, IfOk, List, Option, Some};
 ghost use Rattle.std.specs.String.{string_bytes};
 ghost use Rattle.dt_record.specs.declared.streams.Next.{Next};
 ghost use Rattle.dt_probe_file.specs.Told.{AreToldOf};
 ghost use Rattle.dt_words.specs.Table.{Asked};
-ghost use Rattle.dt_top.specs.Answer.{refusal_line, refusal_status, verdict_status};
-ghost use Rattle.dt_top.specs.Replies.{CameOf, IsJudgedReply, IsRefusalReply, IsReportReply, JudgesFile, answer_by};
+ghost use Rattle.dt_top.specs.Answer.{image_answer, refusal_line, refusal_status, verdict_status};
+ghost use Rattle.dt_top.specs.Replies.{CameOf, IsRefusalReply, IsReportReply, IsStreamReply, JudgesFile, answer_by};
 ghost use Rattle.dt_top.specs.Running.{outside};
 
-use crate::judging::Judging;
 use dt_image::{Image, ImageRefusal, load};
+use dt_pass::pass;
 use dt_probe_file::{FileProbes, Room};
 use dt_record::What;
 use dt_report::{Text, report};
@@ -121,34 +121,46 @@ fn refusal_reply(alloc: Global, refusal: Refusal) -> Reply
     }
 }
 
-/// The reply to an image and a probe file.
-fn judged_reply<J: Judging, P: Source>(
-    judging: &J,
-    alloc: Global,
-    sources: bool,
-    image: &Image,
-    probes: &mut P,
-) -> Reply
-    ensures said { (told : Option (List Next)) × AreToldOf (P.left probes.old) told
-        × IsJudgedReply image.now sources told (P.faults probes.old) (P.faults probes.new) result }
-    ensures never_falls { P.faults probes.old ≤ P.faults probes.new }
+/// The reply to an image that was refused.
+pub fn image_reply(refusal: ImageRefusal) -> Reply
+    ensures { answer_by result ≡ image_answer refusal }
 {
-    let Ok(room) = Room::new(alloc) else {
-        return Reply::OutOfMemory;
-    };
-    let mut stream = FileProbes::within(room, probes);
-    let answer = judging.judge(alloc, image, &mut stream);
-    stream.into_source();
+    match refusal {
+        ImageRefusal::TooLong => Reply::TooLong,
+        ImageRefusal::ReadFault => Reply::ReadFaultImage,
+        ImageRefusal::OutOfMemory => Reply::OutOfMemory,
+    }
+}
+
+/// The reply to a stream that was judged.
+pub fn judged_reply(alloc: Global, sources: bool, answer: Result<Checked, Refusal>) -> Reply
+    ensures report { IfOk answer (λ checked. IsReportReply checked sources result) }
+    ensures refused { IfErr answer (λ refusal. IsRefusalReply refusal result) }
+{
     match answer {
         Ok(checked) => report_reply(alloc, &checked, sources),
         Err(refusal) => refusal_reply(alloc, refusal),
     }
 }
 
-/// The reply to what the sources of an image and a probe file give. Where the image is refused, the
-/// probe file is not read.
-pub fn check_reply<J: Judging, I: Source, P: Source>(
-    judging: &J,
+/// The reply to an image and a probe file, on one thread.
+fn pass_over<P: Source>(alloc: Global, sources: bool, image: &Image, probes: &mut P) -> Reply
+    ensures said { (told : Option (List Next)) × AreToldOf (P.left probes.old) told
+        × IsStreamReply image.now sources told (P.faults probes.old) (P.faults probes.new) result }
+    ensures never_falls { P.faults probes.old ≤ P.faults probes.new }
+{
+    let Ok(room) = Room::new(alloc) else {
+        return Reply::OutOfMemory;
+    };
+    let mut stream = FileProbes::within(room, probes);
+    let answer = pass(alloc, image, &mut stream);
+    stream.into_source();
+    judged_reply(alloc, sources, answer)
+}
+
+/// The reply to what the sources of an image and a probe file give, on one thread. Where the image is
+/// refused, the probe file is not read.
+pub fn pass_reply<I: Source, P: Source>(
     alloc: Global,
     sources: bool,
     image: &mut I,
@@ -161,9 +173,7 @@ pub fn check_reply<J: Judging, I: Source, P: Source>(
     ensures probes_never_falls { P.faults probes.old ≤ P.faults probes.new }
 {
     match load(alloc, image) {
-        Ok(image) => judged_reply(judging, alloc, sources, &image, probes),
-        Err(ImageRefusal::TooLong) => Reply::TooLong,
-        Err(ImageRefusal::ReadFault) => Reply::ReadFaultImage,
-        Err(ImageRefusal::OutOfMemory) => Reply::OutOfMemory,
+        Ok(image) => pass_over(alloc, sources, &image, probes),
+        Err(refusal) => image_reply(refusal),
     }
 }

@@ -4,9 +4,9 @@ ghost use Rattle.dt_words.specs.Table.{asked_in};
 ghost use Rattle.dt_top.specs.Running.{AnswersWhole, Ran, outside};
 ghost use Rattle.dt_top.specs.Tasks.{ReadsImage, ReadsProbes, asked_among, is_plain, is_threaded};
 
-use crate::calls::{Plain, Threaded, TopCall};
 use crate::replies::Reply;
-use crate::running::put_reply;
+use crate::running::{put_reply, run_command as run_plain_command};
+use crate::workers::{Threading, run_command as run_check_command};
 use dt_source::{Gate, Sink, Source};
 use dt_words::{WordsRefusal, parse_words};
 use std::alloc::Global;
@@ -51,7 +51,7 @@ pub fn run_plain<I: Source, P: Source, O: Sink>(
     ensures probes_never_falls { P.faults probes.old ≤ P.faults probes.new }
     ensures out_never_falls { O.faults out.old ≤ O.faults out.new }
 {
-    run_words(&Plain, alloc, words, image, probes, out)
+    plain_words(alloc, words, image, probes, out)
 }
 
 /// Does what the words say, in several threads, where they name `check`: writes the answer and gives the
@@ -95,30 +95,55 @@ pub fn run_check<
     ensures probes_never_falls { P.faults probes.old ≤ P.faults probes.new }
     ensures out_never_falls { O.faults out.old ≤ O.faults out.new }
 {
-    run_words(&Threaded { rt, gate }, alloc, words, image, probes, out)
+    check_words(&Threading { rt, gate }, alloc, words, image, probes, out)
 }
 
-/// The run of words by a top call.
-fn run_words<C: TopCall, I: Source, P: Source, O: Sink>(
-    call: &C,
+/// The run of words on one thread.
+fn plain_words<I: Source, P: Source, O: Sink>(
     alloc: Global,
     words: &[String],
     image: &mut I,
     probes: &mut P,
     out: &mut O,
 ) -> u8
-    ensures ran { Ran (asked_among C.is_own (asked_in words.now))
+    ensures ran { Ran (asked_among is_plain (asked_in words.now))
         (outside (I.left image.old) (I.left image.new) (I.faults image.old) (I.faults image.new))
         (outside (P.left probes.old) (P.left probes.new) (P.faults probes.old) (P.faults probes.new))
         (outside (O.written out.old) (O.written out.new) (O.faults out.old) (O.faults out.new)) result }
-    ensures image_stays { (ReadsImage (asked_among C.is_own (asked_in words.now)) → ⊥) → image.new ≡ image.old }
-    ensures probes_stay { (ReadsProbes (asked_among C.is_own (asked_in words.now)) → ⊥) → probes.new ≡ probes.old }
+    ensures image_stays { (ReadsImage (asked_among is_plain (asked_in words.now)) → ⊥) → image.new ≡ image.old }
+    ensures probes_stay { (ReadsProbes (asked_among is_plain (asked_in words.now)) → ⊥) → probes.new ≡ probes.old }
     ensures image_never_falls { I.faults image.old ≤ I.faults image.new }
     ensures probes_never_falls { P.faults probes.old ≤ P.faults probes.new }
     ensures out_never_falls { O.faults out.old ≤ O.faults out.new }
 {
     match parse_words(alloc, words) {
-        Ok(command) => call.run(alloc, &command, image, probes, out),
+        Ok(command) => run_plain_command(alloc, &command, image, probes, out),
+        Err(WordsRefusal::Usage) => put_reply(&Reply::Usage, out),
+        Err(WordsRefusal::OutOfMemory) => put_reply(&Reply::OutOfMemory, out),
+    }
+}
+
+/// The run of words by workers.
+fn check_words<R: Threads + Wait + Sync, I: Source, P: Source, O: Sink, G: Gate + Sync>(
+    threading: &Threading<'_, R, G>,
+    alloc: Global,
+    words: &[String],
+    image: &mut I,
+    probes: &mut P,
+    out: &mut O,
+) -> u8
+    ensures ran { Ran (asked_among is_threaded (asked_in words.now))
+        (outside (I.left image.old) (I.left image.new) (I.faults image.old) (I.faults image.new))
+        (outside (P.left probes.old) (P.left probes.new) (P.faults probes.old) (P.faults probes.new))
+        (outside (O.written out.old) (O.written out.new) (O.faults out.old) (O.faults out.new)) result }
+    ensures image_stays { (ReadsImage (asked_among is_threaded (asked_in words.now)) → ⊥) → image.new ≡ image.old }
+    ensures probes_stay { (ReadsProbes (asked_among is_threaded (asked_in words.now)) → ⊥) → probes.new ≡ probes.old }
+    ensures image_never_falls { I.faults image.old ≤ I.faults image.new }
+    ensures probes_never_falls { P.faults probes.old ≤ P.faults probes.new }
+    ensures out_never_falls { O.faults out.old ≤ O.faults out.new }
+{
+    match parse_words(alloc, words) {
+        Ok(command) => run_check_command(threading, alloc, &command, image, probes, out),
         Err(WordsRefusal::Usage) => put_reply(&Reply::Usage, out),
         Err(WordsRefusal::OutOfMemory) => put_reply(&Reply::OutOfMemory, out),
     }

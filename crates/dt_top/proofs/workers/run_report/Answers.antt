@@ -1,5 +1,5 @@
 use Rattle.dt_top.proofs.Replying.{ran_of_reply}
-use Rattle.dt_top.proofs.running.run_report.Goals as goal
+use Rattle.dt_top.proofs.workers.run_report.Goals as goal
 
 pub returns-clause-ran : goal.returns-clause-ran
 returns-clause-ran g c = λ asked judges wants.
