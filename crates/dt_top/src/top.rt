@@ -57,13 +57,7 @@ pub fn run_plain<I: Source, P: Source, O: Sink>(
 /// Does what the words say, in several threads, where they name `check`: writes the answer and gives the
 /// exit status. Both are those of `run_plain` with `pass` in its place. It waits for its threads. The
 /// statuses are those of `run_plain`; 2 comes for the words of its commands too.
-pub fn run_check<
-    R: Threads + Wait + Sync,
-    I: Source,
-    P: Source,
-    O: Sink,
-    G: Gate + Sync,
->(
+pub fn run_check<R: Threads + Wait + Sync, I: Source, P: Source, O: Sink, G: Gate + Sync>(
     rt: &R,
     alloc: Global,
     words: &[String],
