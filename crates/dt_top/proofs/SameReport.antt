@@ -1,5 +1,5 @@
 -- Words that ask for a report have one answer, whatever the command is that prints it.
-use Rattle.std.proofs.Common.{◌≡◌, ◌∙◌, ◌↔◌, ℕ, List, Some, sym}
+use Rattle.std.proofs.Common.{◌≡◌, ◌∙◌, ℕ, List, Some, sym}
 use Rattle.dt_words.specs.Table.{Asked}
 use Rattle.dt_top.specs.Answer.{Answer, IsAnswer}
 use Rattle.dt_top.specs.Laws.{CheckAnswersAsPass}
