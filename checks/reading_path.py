@@ -1,7 +1,7 @@
 #!/usr/bin/env python3
 """The files of specs/ in which the headline rests, and whether docs/READING.md lists them.
 
-They are those that the contract of `run_plain` names, and those that these import, with the number of their
+They are those that the contract of `run_check` names, and those that these import, with the number of their
 lines that are neither empty nor imports. The page has to list each of them once, behind all that it imports,
 with that number, and their sums; and each of its thirty words has to stand in one of them.
 Without words it prints the list as it has to stand, group by group, and what the page says otherwise.
@@ -13,7 +13,7 @@ import sys
 TOP = os.path.dirname(os.path.dirname(os.path.abspath(__file__)))
 PAGE = os.path.join("docs", "READING.md")
 CODE = os.path.join("crates", "dt_top", "src", "top.rt")
-CALL = "pub fn run_plain"
+CALL = "pub fn run_check"
 WORDS = 30
 IMPORT = re.compile(r"^(?:pub )?(?:ghost )?use Rattle\.(\w+)\.([\w.]+?)(?:\.\{([^}]*)\}|\s+as\s+\w+)?;?$")
 ROW = re.compile(r"^\| (\w+) \| `(\w+)` \| (\d+) \|$")

@@ -1,13 +1,15 @@
 //! `difftest pass [--sources] IMAGE PROBES`: judges what a RISC-V design did, from its probe file.
-//! `difftest dump PROBES` prints the file's records, and `difftest convert --to N PROBES` writes it in
-//! another version.
+//! `difftest check [--workers N] [--sources] IMAGE PROBES` does so in several threads, `difftest dump PROBES`
+//! prints the file's records, and `difftest convert --to N PROBES` writes it in another version.
 #![tactic(auto)]
 
-use dt_source::{FileSource, Sink, StdSink, write_all};
-use dt_top::{WordsRefusal, parse_words, run_plain};
+use dt_source::{FileSource, FreeGate, Sink, StdSink, write_all};
+use dt_top::{Command, Task, WordsRefusal, parse_words, run_check, run_plain};
 use std::io;
 use std::process::ExitCode;
 use std::rt::{Env, Files};
+use std::sync::Wait;
+use std::thread::Threads;
 
 const OUT_OF_MEMORY: u8 = 7;
 
@@ -15,7 +17,7 @@ fn main(rt: HostRuntime) -> ExitCode {
     ExitCode::from(run(&rt))
 }
 
-fn run<R: Env + Files + Print + AllocGlobal>(rt: &R) -> u8 {
+fn run<R: Env + Files + Print + AllocGlobal + Threads + Wait + Sync>(rt: &R) -> u8 {
     let mut out = StdSink::new(io::writer(rt));
     let words = match words_of(rt) {
         Ok(words) => words,
@@ -24,12 +26,8 @@ fn run<R: Env + Files + Print + AllocGlobal>(rt: &R) -> u8 {
         Err(_) => Vec::new(rt.alloc()),
     };
     match parse_words(rt.alloc(), words.as_slice()) {
-        Ok(command) => {
-            let image = command.image.as_ref().map(|path| path.as_str());
-            let probes = command.probes.as_ref().map(|path| path.as_str());
-            answer(rt, words.as_slice(), image, probes, &mut out)
-        }
-        Err(WordsRefusal::Usage) => answer(rt, words.as_slice(), None, None, &mut out),
+        Ok(command) => answer(rt, words.as_slice(), &command, &mut out),
+        Err(WordsRefusal::Usage) => usage(rt, words.as_slice(), &mut out),
         Err(WordsRefusal::OutOfMemory) => without_memory(&mut out),
     }
 }
@@ -39,15 +37,28 @@ fn words_of<R: Env + AllocGlobal>(rt: &R) -> io::Result<Vec<String>> {
     Ok(std::env::args(rt)?.skip(1).collect(rt.alloc())?)
 }
 
-fn answer<R: Files + AllocGlobal, O: Sink>(
+/// The answer to words that name a command. Those of `check` alone start threads and wait for them.
+fn answer<R: Files + AllocGlobal + Threads + Wait + Sync, O: Sink>(
     rt: &R,
     words: &[String],
-    image: Option<&str>,
-    probes: Option<&str>,
+    command: &Command,
     out: &mut O,
 ) -> u8 {
-    let mut image = FileSource::named(rt, image);
-    let mut probes = FileSource::named(rt, probes);
+    let alloc = rt.alloc();
+    let mut image = FileSource::named(rt, command.image.as_ref().map(|path| path.as_str()));
+    let mut probes = FileSource::named(rt, command.probes.as_ref().map(|path| path.as_str()));
+    match command.task {
+        Task::Check => run_check(rt, alloc, words, &mut image, &mut probes, out, &FreeGate),
+        Task::Pass | Task::Dump | Task::Convert => {
+            run_plain(alloc, words, &mut image, &mut probes, out)
+        }
+    }
+}
+
+/// The answer to words that are in no table.
+fn usage<R: Files + AllocGlobal, O: Sink>(rt: &R, words: &[String], out: &mut O) -> u8 {
+    let mut image = FileSource::named(rt, None);
+    let mut probes = FileSource::named(rt, None);
     run_plain(rt.alloc(), words, &mut image, &mut probes, out)
 }
 

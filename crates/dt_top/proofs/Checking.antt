@@ -1,5 +1,5 @@
 -- What the answers of a probe file say of its check.
-use Rattle.std.proofs.Common.{◌≡◌, ◌≢◌, ℕ, Bool, List, [], ◌∷◌, ◌++◌, map, length, Option, Some, None, IfSome, refl, sym, ap, ◌∙◌, subst}
+use Rattle.std.proofs.Common.{◌≡◌, ◌≢◌, ℕ, Bool, List, [], ◌∷◌, ◌++◌, map, length, Option, Some, None, Result, Ok, Err, IfSome, IfOk, IfErr, refl, sym, ap, ◌∙◌, subst}
 use Rattle.std.specs.String.{string_bytes}
 use Rattle.dt_source.specs.Faults.{Rose}
 use Rattle.dt_record.specs.declared.records.Record.{Record}
@@ -17,7 +17,7 @@ use Rattle.dt_report.specs.Report.{report_text}
 use Rattle.dt_top.specs.declared.replies.Reply.{Reply}
 use Rattle.dt_top.specs.declared.replies.Reply.TheVariants.{Usage, TooLong, ReadFaultImage, Refused, Report, OutOfMemory}
 use Rattle.dt_top.specs.Answer.{answer, refusal_line, verdict_status, IsRefused, IsReport}
-use Rattle.dt_top.specs.Replies.{IsPassReply, IsRefusalReply, IsReportReply}
+use Rattle.dt_top.specs.Replies.{IsStreamReply, IsRefusalReply, IsReportReply}
 
 -- ---- the answers
 
@@ -53,7 +53,7 @@ report_said image sources (Some b) told progress checked v text tells check verd
 
 pub checked_said : (image : List ℕ) (sources : Bool) (probes : Option (List ℕ)) (faults_old faults_new : ℕ)
     (told : Option (List Next)) (progress : Progress) (checked : Checked) (reply : Reply) → AreToldOf probes told
-    → IsCheckOf image told progress checked → IsReportReply checked sources reply → IsPassReply image sources told faults_old faults_new reply
+    → IsCheckOf image told progress checked → IsReportReply checked sources reply → IsStreamReply image sources told faults_old faults_new reply
 checked_said image sources probes _ _ told progress checked Usage tells check is = is
 checked_said image sources probes _ _ told progress checked TooLong tells check is = is
 checked_said image sources probes _ _ told progress checked ReadFaultImage tells check is = is
@@ -67,7 +67,7 @@ pub refused_said : (image : List ℕ) (sources : Bool) (faults_old faults_new ow
     (told : Option (List Next)) (r : Refusal) (reply : Reply) → own_old ≡ faults_old
     → (r ≢ refusal.ReadFault → r ≢ refusal.OutOfMemory → IfSome told (λ answers. refusal_in answers ≡ Some r))
     → (r ≡ refusal.ReadFault → Rose own_old own_new) → faults_new ≡ own_new
-    → IsRefusalReply r reply → IsPassReply image sources told faults_old faults_new reply
+    → IsRefusalReply r reply → IsStreamReply image sources told faults_old faults_new reply
 refused_said image sources faults_old faults_new own_old own_new told r Usage first known fault last is = is
 refused_said image sources faults_old faults_new own_old own_new told r TooLong first known fault last is = is
 refused_said image sources faults_old faults_new own_old own_new told r ReadFaultImage first known fault last is = is
@@ -80,3 +80,15 @@ refused_said image sources faults_old faults_new own_old own_new told r (Refused
     )
 refused_said image sources faults_old faults_new own_old own_new told r (Report v text) first known fault last is = absurd is
 refused_said image sources faults_old faults_new own_old own_new told r OutOfMemory first known fault last is = tt
+
+pub stream_said : (image : List ℕ) (sources : Bool) (probes : Option (List ℕ)) (faults_old faults_new own_old own_new : ℕ)
+    (told : Option (List Next)) (progress : Progress) (came : Result Checked Refusal) (reply : Reply) → AreToldOf probes told → own_old ≡ faults_old
+    → faults_new ≡ own_new → IfOk came (λ checked. IsCheckOf image told progress checked)
+    → IfErr came (λ r. r ≢ refusal.ReadFault → r ≢ refusal.OutOfMemory → IfSome told (λ answers. refusal_in answers ≡ Some r))
+    → (came ≡ Err refusal.ReadFault → Rose own_old own_new)
+    → IfOk came (λ checked. IsReportReply checked sources reply) → IfErr came (λ r. IsRefusalReply r reply)
+    → IsStreamReply image sources told faults_old faults_new reply
+stream_said image sources probes faults_old faults_new own_old own_new told progress (Ok checked) reply tells first last check known fault report refused =
+    checked_said image sources probes faults_old faults_new told progress checked reply tells check report
+stream_said image sources probes faults_old faults_new own_old own_new told progress (Err r) reply tells first last check known fault report refused =
+    refused_said image sources faults_old faults_new own_old own_new told r reply first known (λ e. fault (ap (λ (x : Refusal). Err x) e)) last refused

@@ -3,4 +3,5 @@ pub mod Checking
 pub mod Filing
 pub mod OneAnswer
 pub mod Replying
+pub mod SameReport
 pub mod Tasks

@@ -23,8 +23,8 @@ use Rattle.dt_probe_file.proofs.Exists.{of_are}
 use Rattle.dt_reading.specs.Reading.{refusal_in}
 use Rattle.dt_top.specs.declared.replies.Reply.{Reply}
 use Rattle.dt_top.specs.declared.replies.Reply.TheVariants as reply
-use Rattle.dt_top.specs.Answer.{Answer, answer, verdict_status, usage_answer, too_long_answer, image_fault_answer, memory_answer, refusal_answer, refusal_line, refusal_status, Fits, IsAnswer, IsRefused, IsReport, IsTooLong}
-use Rattle.dt_top.specs.Replies.{answer_by, CameOf, IsPassReply, IsPut, JudgesFile}
+use Rattle.dt_top.specs.Answer.{Answer, answer, verdict_status, usage_answer, too_long_answer, image_answer, image_fault_answer, memory_answer, refusal_answer, refusal_line, refusal_status, Fits, IsAnswer, IsRefused, IsReport, IsTooLong}
+use Rattle.dt_top.specs.Replies.{answer_by, CameOf, IsStreamReply, IsPut, JudgesFile}
 use Rattle.dt_top.specs.Running.{Outside, outside, HasFailed, IsGiven, MayWrite, Ran, StopsWith}
 use Rattle.dt_top.specs.Tasks.{WhereTold}
 use Rattle.dt_top.proofs.Checking.{not_refused}
@@ -332,6 +332,26 @@ of_too_long asked image probes judges refused = record {
         at None = tt
         at (Some b) = (too_long_answer.text, refl, too_long_is_answer asked i b judges l)
 
+-- a load that was refused
+abbrev pub refused_load : ImageRefusal → Result (List ℕ) ImageRefusal
+refused_load r = Err r
+
+pub of_image_refusal : (asked : Asked) (image probes : Outside) (r : ImageRefusal) (a : Answer) → JudgesFile asked.task → a ≡ image_answer r
+    → (refused_load r ≡ refused_load image_refusal.ReadFault → HasFailed image)
+    → (refused_load r ≢ refused_load image_refusal.ReadFault → refused_load r ≢ refused_load image_refusal.OutOfMemory
+    → IfSome image.before (λ bytes. refused_load r ≡ loaded bytes))
+    → CameOf (Some asked) image probes a
+of_image_refusal asked image probes r a judges is fault answers =
+    subst (λ (x : Answer). CameOf (Some asked) image probes x) (sym is) (by r fault answers)
+  where
+    by : (r : ImageRefusal) → (refused_load r ≡ refused_load image_refusal.ReadFault → HasFailed image)
+        → (refused_load r ≢ refused_load image_refusal.ReadFault → refused_load r ≢ refused_load image_refusal.OutOfMemory
+        → IfSome image.before (λ bytes. refused_load r ≡ loaded bytes))
+        → CameOf (Some asked) image probes (image_answer r)
+    by image_refusal.TooLong fault answers = of_too_long asked image probes judges (answers (λ e. cc) (λ e. cc))
+    by image_refusal.ReadFault fault answers = of_image_fault asked image probes judges (fault refl)
+    by image_refusal.OutOfMemory fault answers = of_memory (Some asked) image probes
+
 -- ---- the reply to an image that was loaded
 
 one_refusal : (told : Option (List Next)) (r s : Refusal) → IfSome told (λ answers. IsRefused answers r) → IsSomeAnd told (λ answers. IsRefused answers s) → r ≡ s
@@ -428,7 +448,7 @@ of_report asked i image probes told v text judges fits known tells is = record {
 
 of_known : (asked : Asked) (i : List ℕ) (image probes : Outside) (told : Option (List Next)) (r : Reply) → JudgesFile asked.task
     → Fits i → IfSome image.before (λ bytes. bytes ≡ i) → AreToldOf probes.before told
-    → IsPassReply i asked.sources told probes.faults_before probes.faults_after r → CameOf (Some asked) image probes (answer_by r)
+    → IsStreamReply i asked.sources told probes.faults_before probes.faults_after r → CameOf (Some asked) image probes (answer_by r)
 of_known asked i image probes told reply.Usage judges fits known tells said = absurd said
 of_known asked i image probes told reply.TooLong judges fits known tells said = absurd said
 of_known asked i image probes told reply.ReadFaultImage judges fits known tells said = absurd said
@@ -440,8 +460,8 @@ of_known asked i image probes told reply.OutOfMemory judges fits known tells sai
 
 pub of_pass : (asked : Asked) (i : List ℕ) (image probes : Outside) (sources : Bool) (r : Reply) → JudgesFile asked.task → asked.sources ≡ sources
     → Fits i → IfSome image.before (λ bytes. let x : Result (List ℕ) ImageRefusal = Ok i in x ≡ loaded bytes)
-    → (told : Option (List Next)) × AreToldOf probes.before told × IsPassReply i sources told probes.faults_before probes.faults_after r
+    → (told : Option (List Next)) × AreToldOf probes.before told × IsStreamReply i sources told probes.faults_before probes.faults_after r
     → CameOf (Some asked) image probes (answer_by r)
 of_pass asked i image probes sources r judges wants fits loads said =
     of_known asked i image probes said.0 r judges fits (some_map image.before _ _ loads (λ bytes e. fitting bytes i e)) said.1
-    (subst (λ (s : Bool). IsPassReply i s said.0 probes.faults_before probes.faults_after r) (sym wants) said.2)
+    (subst (λ (s : Bool). IsStreamReply i s said.0 probes.faults_before probes.faults_after r) (sym wants) said.2)

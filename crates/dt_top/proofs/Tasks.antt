@@ -10,7 +10,7 @@ use Rattle.dt_words.specs.declared.commands.Task.{Task}
 use Rattle.dt_words.specs.declared.commands.Task.TheVariants.{Pass, Check, Dump, Convert}
 use Rattle.dt_words.specs.Table.{Asked}
 use Rattle.dt_top.specs.Replies.{JudgesFile}
-use Rattle.dt_top.specs.Tasks.{FirstInput, an_image, nothing, asked_among, first_input, is_plain, prints_report, reads_probes, WhereFirst, WhereProbes, WhereTold}
+use Rattle.dt_top.specs.Tasks.{FirstInput, an_image, nothing, asked_among, first_input, is_threaded, prints_report, reads_probes, WhereFirst, WhereProbes, WhereTold}
 
 -- a task that reads a probe file alone, and prints no report
 pub record ReadsFileAlone (task : Task) : Type 0 where
@@ -98,10 +98,12 @@ where_map (Some asked) image probes P Q h go =
     first_map (first_input asked.task) image (λ i. WhereProbes (reads_probes asked.task) probes (P i)) (λ i. WhereProbes (reads_probes asked.task) probes (Q i)) h
     (λ i told. probes_map (reads_probes asked.task) probes (P i) (Q i) told (go i))
 
--- `check` is no task of the top call on one thread
-pub not_own : (asked : Asked) → asked.task ≡ Check → asked_among is_plain (Some asked) ≡ None
-not_own asked is = rw is refl
+-- a task of the other top call is none of this one's
+pub not_own : (is_own : Task → Bool) (asked : Asked) → is_own asked.task ≡ false → asked_among is_own (Some asked) ≡ None
+not_own is_own asked other = rw other refl
 
--- what words ask of it is what they ask for, where it is one of its tasks
-pub own_task : (asked : Asked) → is_plain asked.task ≡ true → asked_among is_plain (Some asked) ≡ Some asked
-own_task asked own = rw own refl
+pub check_alone : (t : Task) → (t ≡ Check → ⊥) → is_threaded t ≡ false
+check_alone Pass other = refl
+check_alone Check other = absurd (other refl)
+check_alone Dump other = refl
+check_alone Convert other = refl

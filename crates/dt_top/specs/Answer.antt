@@ -8,6 +8,8 @@ use Rattle.dt_record.specs.Answers.{AreAnswers}
 use Rattle.dt_record.specs.Spelling.{Version, One, Two}
 use Rattle.dt_dump.specs.Dump.{dump_text, last_line, memory_line, read_fault_line, stream_status}
 use Rattle.dt_convert.specs.Convert.{converted}
+use Rattle.dt_image.specs.declared.images.ImageRefusal.{ImageRefusal}
+use Rattle.dt_image.specs.declared.images.ImageRefusal.TheVariants as image_refusal
 use Rattle.dt_verdict.specs.declared.answers.Checked.{Checked}
 use Rattle.dt_verdict.specs.declared.answers.Refusal.{Refusal}
 use Rattle.dt_verdict.specs.declared.answers.Refusal.TheVariants.{Malformed, Limit, ReadFault, OutOfMemory}
@@ -56,6 +58,11 @@ Fits image = length image ≤ IMAGE_LIMIT
 
 abbrev pub too_long_answer : Answer
 too_long_answer = answer 3 (codes "IMAGE TOO LONG\n")
+
+abbrev pub image_answer : ImageRefusal → Answer
+image_answer image_refusal.TooLong = too_long_answer
+image_answer image_refusal.ReadFault = image_fault_answer
+image_answer image_refusal.OutOfMemory = memory_answer
 
 -- why a stream is not read to its end: the answer that ends its answers, a fault of its form or a limit
 abbrev pub IsRefused : List Next → Refusal → Type 0

@@ -1,4 +1,5 @@
-use Rattle.std.specs.Prelude.{ℕ, ◌≡◌, List, Option}
+use Rattle.std.specs.Prelude.{ℕ, ◌≡◌, ◌↔◌, List, Option, Some}
+use Rattle.dt_words.specs.declared.commands.Task.TheVariants.{Check, Pass}
 use Rattle.dt_words.specs.Table.{Asked}
 use Rattle.dt_top.specs.Answer.{Answer, IsAnswer}
 
@@ -12,3 +13,8 @@ ARunHasAnAnswer = (asked : Option Asked) (image probes : List ℕ) → (a : Answ
 abbrev pub ARunHasOneAnswer : Type 0
 ARunHasOneAnswer = (asked : Option Asked) (image probes : List ℕ) (one other : Answer)
     → IsAnswer asked image probes one → IsAnswer asked image probes other → one ≡ other
+
+-- the answer to `check`, for any number of workers, is that to `pass` where both ask for the lines of sources or both do not
+abbrev pub CheckAnswersAsPass : Type 0
+CheckAnswersAsPass = (checking passing : Asked) (image probes : List ℕ) (a : Answer) → checking.task ≡ Check → passing.task ≡ Pass
+    → checking.sources ≡ passing.sources → (IsAnswer (Some checking) image probes a ↔ IsAnswer (Some passing) image probes a)

@@ -37,14 +37,14 @@ IsRefusalReply r OutOfMemory = Unit {0}
 IsRefusalReply r reply = ⊥
 
 -- the reply to an image and a stream, where it tells its answers
-abbrev pub IsPassReply : (image : List ℕ) (sources : Bool) (told : Option (List Next)) (faults_old faults_new : ℕ) → Reply → Type 0
-IsPassReply image sources told faults_old faults_new (Refused r line) =
+abbrev pub IsStreamReply : (image : List ℕ) (sources : Bool) (told : Option (List Next)) (faults_old faults_new : ℕ) → Reply → Type 0
+IsStreamReply image sources told faults_old faults_new (Refused r line) =
     (string_bytes line ≡ refusal_line r) × (r ≡ refusal.ReadFault → Rose faults_old faults_new)
     × (r ≢ refusal.ReadFault → r ≢ refusal.OutOfMemory → IfSome told (λ answers. IsRefused answers r))
-IsPassReply image sources told faults_old faults_new (Report verdict text) =
+IsStreamReply image sources told faults_old faults_new (Report verdict text) =
     IfSome told (λ answers. IsReport image answers sources (answer (verdict_status verdict) text))
-IsPassReply image sources told faults_old faults_new OutOfMemory = Unit {0}
-IsPassReply image sources told faults_old faults_new reply = ⊥
+IsStreamReply image sources told faults_old faults_new OutOfMemory = Unit {0}
+IsStreamReply image sources told faults_old faults_new reply = ⊥
 
 -- a task that reads an image and then a probe file, and prints the report
 pub record JudgesFile (task : Task) : Type 0 where

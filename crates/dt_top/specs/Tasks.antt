@@ -37,6 +37,13 @@ is_plain Check = false
 is_plain Dump = true
 is_plain Convert = true
 
+-- whether a task is one of the top call that starts threads
+abbrev pub is_threaded : Task → Bool
+is_threaded Pass = false
+is_threaded Check = true
+is_threaded Dump = false
+is_threaded Convert = false
+
 -- ---- what words ask for
 
 -- what words ask of a top call: what they ask for, where that is a task of its own

@@ -1,5 +1,5 @@
 //! Laws of the program's answer. The functions do nothing.
-ghost use Rattle.dt_top.specs.Laws.{ARunHasAnAnswer, ARunHasOneAnswer};
+ghost use Rattle.dt_top.specs.Laws.{ARunHasAnAnswer, ARunHasOneAnswer, CheckAnswersAsPass};
 
 use dt_pass::{a_file_has_a_check, a_file_has_one_check};
 use dt_probe_file::{file_answers, one_list};
@@ -22,3 +22,9 @@ pub fn a_run_has_one_answer()
     one_list();
     a_file_has_one_check();
 }
+
+/// What `check` answers is what `pass` answers, for any number of workers: the status and the bytes
+/// written depend on the image, the probe file and a wish for sources alone.
+pub fn check_answers_as_pass()
+    ensures { CheckAnswersAsPass }
+{}

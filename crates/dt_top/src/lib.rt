@@ -8,7 +8,8 @@ mod running;
 #[cfg(test)]
 mod tests;
 mod top;
+mod workers;
 
 pub use dt_words::{Command, Task, WordsRefusal, parse_words};
-pub use laws::{a_run_has_an_answer, a_run_has_one_answer};
-pub use top::run_plain;
+pub use laws::{a_run_has_an_answer, a_run_has_one_answer, check_answers_as_pass};
+pub use top::{run_check, run_plain};

@@ -1,11 +1,11 @@
 //! What the program comes to, before it writes anything.
-ghost use Rattle.std.specs.Prelude.{◌≡◌, ◌≤◌, IfOk, List, Option, Some};
+ghost use Rattle.std.specs.Prelude.{◌≡◌, ◌≤◌, IfErr, IfOk, List, Option, Some};
 ghost use Rattle.std.specs.String.{string_bytes};
 ghost use Rattle.dt_record.specs.declared.streams.Next.{Next};
 ghost use Rattle.dt_probe_file.specs.Told.{AreToldOf};
 ghost use Rattle.dt_words.specs.Table.{Asked};
-ghost use Rattle.dt_top.specs.Answer.{refusal_line, refusal_status, verdict_status};
-ghost use Rattle.dt_top.specs.Replies.{CameOf, IsPassReply, IsRefusalReply, IsReportReply, JudgesFile, answer_by};
+ghost use Rattle.dt_top.specs.Answer.{image_answer, refusal_line, refusal_status, verdict_status};
+ghost use Rattle.dt_top.specs.Replies.{CameOf, IsRefusalReply, IsReportReply, IsStreamReply, JudgesFile, answer_by};
 ghost use Rattle.dt_top.specs.Running.{outside};
 
 use dt_image::{Image, ImageRefusal, load};
@@ -121,10 +121,32 @@ fn refusal_reply(alloc: Global, refusal: Refusal) -> Reply
     }
 }
 
-/// The reply to an image and a probe file.
-fn pass_reply<P: Source>(alloc: Global, sources: bool, image: &Image, probes: &mut P) -> Reply
+/// The reply to an image that was refused.
+pub fn image_reply(refusal: ImageRefusal) -> Reply
+    ensures { answer_by result ≡ image_answer refusal }
+{
+    match refusal {
+        ImageRefusal::TooLong => Reply::TooLong,
+        ImageRefusal::ReadFault => Reply::ReadFaultImage,
+        ImageRefusal::OutOfMemory => Reply::OutOfMemory,
+    }
+}
+
+/// The reply to a stream that was judged.
+pub fn judged_reply(alloc: Global, sources: bool, answer: Result<Checked, Refusal>) -> Reply
+    ensures report { IfOk answer (λ checked. IsReportReply checked sources result) }
+    ensures refused { IfErr answer (λ refusal. IsRefusalReply refusal result) }
+{
+    match answer {
+        Ok(checked) => report_reply(alloc, &checked, sources),
+        Err(refusal) => refusal_reply(alloc, refusal),
+    }
+}
+
+/// The reply to an image and a probe file, on one thread.
+fn pass_over<P: Source>(alloc: Global, sources: bool, image: &Image, probes: &mut P) -> Reply
     ensures said { (told : Option (List Next)) × AreToldOf (P.left probes.old) told
-        × IsPassReply image.now sources told (P.faults probes.old) (P.faults probes.new) result }
+        × IsStreamReply image.now sources told (P.faults probes.old) (P.faults probes.new) result }
     ensures never_falls { P.faults probes.old ≤ P.faults probes.new }
 {
     let Ok(room) = Room::new(alloc) else {
@@ -133,15 +155,12 @@ fn pass_reply<P: Source>(alloc: Global, sources: bool, image: &Image, probes: &m
     let mut stream = FileProbes::within(room, probes);
     let answer = pass(alloc, image, &mut stream);
     stream.into_source();
-    match answer {
-        Ok(checked) => report_reply(alloc, &checked, sources),
-        Err(refusal) => refusal_reply(alloc, refusal),
-    }
+    judged_reply(alloc, sources, answer)
 }
 
-/// The reply to what the sources of an image and a probe file give. Where the image is refused, the
-/// probe file is not read.
-pub fn check_reply<I: Source, P: Source>(
+/// The reply to what the sources of an image and a probe file give, on one thread. Where the image is
+/// refused, the probe file is not read.
+pub fn pass_reply<I: Source, P: Source>(
     alloc: Global,
     sources: bool,
     image: &mut I,
@@ -154,9 +173,7 @@ pub fn check_reply<I: Source, P: Source>(
     ensures probes_never_falls { P.faults probes.old ≤ P.faults probes.new }
 {
     match load(alloc, image) {
-        Ok(image) => pass_reply(alloc, sources, &image, probes),
-        Err(ImageRefusal::TooLong) => Reply::TooLong,
-        Err(ImageRefusal::ReadFault) => Reply::ReadFaultImage,
-        Err(ImageRefusal::OutOfMemory) => Reply::OutOfMemory,
+        Ok(image) => pass_over(alloc, sources, &image, probes),
+        Err(refusal) => image_reply(refusal),
     }
 }

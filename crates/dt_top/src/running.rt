@@ -8,7 +8,7 @@ ghost use Rattle.dt_top.specs.Replies.{IsPut, JudgesFile, answer_by};
 ghost use Rattle.dt_top.specs.Running.{Outside, Ran, outside};
 ghost use Rattle.dt_top.specs.Tasks.{an_image, asked_among, first_input, is_plain, reads_probes};
 
-use crate::replies::{Reply, check_reply};
+use crate::replies::{Reply, pass_reply};
 use dt_convert::{FileVersion, convert_probes};
 use dt_dump::{WRITE_FAULT, dump_probes};
 use dt_probe_file::{FileProbes, Room};
@@ -28,7 +28,7 @@ pub fn put_reply<O: Sink>(reply: &Reply, out: &mut O) -> u8
     }
 }
 
-/// Judges a probe file against the reference.
+/// Judges a probe file against the reference, on one thread.
 fn run_pass<I: Source, P: Source, O: Sink>(
     alloc: Global,
     sources: bool,
@@ -44,7 +44,7 @@ fn run_pass<I: Source, P: Source, O: Sink>(
     ensures probes_never_falls { P.faults probes.old ≤ P.faults probes.new }
     ensures out_never_falls { O.faults out.old ≤ O.faults out.new }
 {
-    let reply = check_reply(alloc, sources, image, probes);
+    let reply = pass_reply(alloc, sources, image, probes);
     put_reply(&reply, out)
 }
 

@@ -1,8 +1,8 @@
 //! Reports, and calls that fail. `checks/worked-rows` and `checks/commands` try the program over many
 //! more files and words.
-use crate::run_plain;
+use crate::{run_check, run_plain};
 use dt_record::IMAGE_LIMIT;
-use dt_source::{Failed, MemSink, MemSource, Source};
+use dt_source::{Failed, FreeGate, MemSink, MemSource, Source};
 use std::alloc::{AllocError, Global};
 use std::process::Abort;
 use std::test::Fail;
@@ -11,7 +11,7 @@ const PASS: &[&str] = &["pass", "IMAGE", "PROBES"];
 
 const DUMP: &[&str] = &["dump", "PROBES"];
 
-const CHECK: &[&str] = &["check", "IMAGE", "PROBES"];
+const CHECK: &[&str] = &["check", "--workers", "3", "IMAGE", "PROBES"];
 
 const TO_2: &[&str] = &["convert", "--to", "2", "PROBES"];
 
@@ -24,6 +24,11 @@ const FILE: &str = "534d504449464600010001000000000001000100000000000000\
 
 /// The line of its record.
 const LINE: &str = "1.0.0 Commit pc=0000000080000000 bits=00500093 value=0000000000000005\n";
+
+/// What its check prints.
+const PASSED: &[u8] = b"PASS\nharts=1 records=1 writes=0\n\
+    hart 0 retired=1 traps=0 loads=0 stores=0 atomics=0 drains=0\n\
+    rules L=0 S=0 P=0 I=0 D=0 C=0 Z=0\n";
 
 /// The same in version 2.
 const FILE_2: &str = "534d5044494646000200010000000000010001078080808008\
@@ -76,6 +81,14 @@ impl Source for Counting {
     }
 }
 
+fn owned(alloc: Global, words: &[&str]) -> Result<Vec<String>, AllocError> {
+    let mut all = Vec::new(alloc);
+    for word in words {
+        all.push(String::from_str(alloc, word)?)?;
+    }
+    Ok(all)
+}
+
 /// Runs the program on words, an image and a probe file.
 fn run_over<I: Source>(
     alloc: Global,
@@ -84,10 +97,7 @@ fn run_over<I: Source>(
     probes: &str,
     outside: Outside,
 ) -> Result<(u8, Vec<u8>), Fail> {
-    let mut all = Vec::new(alloc);
-    for word in words {
-        all.push(String::from_str(alloc, word)?)?;
-    }
+    let all = owned(alloc, words)?;
     let probes = hex::decode(alloc, probes)?;
     let mut probes = MemSource::new(probes, outside.piece, vec![in alloc; outside.probes_fail]?);
     let mut out = MemSink::new(alloc, outside.room, vec![in alloc; outside.sink_fails]?)?;
@@ -115,16 +125,41 @@ fn expect(
 
 #[test]
 fn a_file_has_its_report(rt: HostRuntime) -> Result<(), Fail> {
-    let passed = b"PASS\nharts=1 records=1 writes=0\n\
-        hart 0 retired=1 traps=0 loads=0 stores=0 atomics=0 drains=0\n\
-        rules L=0 S=0 P=0 I=0 D=0 C=0 Z=0\n";
     for piece in [1, 20, 64] {
         let outside = Outside { piece, ..CALM };
-        expect(&rt, PASS, FILE, outside, 0, passed)?;
+        expect(&rt, PASS, FILE, outside, 0, PASSED)?;
         expect(&rt, PASS, TWICE_WRONG, outside, 4, b"MALFORMED offset=46\n")?;
         let two = hex::decode(rt.alloc(), FILE_2)?;
         expect(&rt, TO_2, FILE, outside, 0, &two)?;
         expect(&rt, CHECK, FILE, outside, 2, b"USAGE\n")?;
+    }
+    Ok(())
+}
+
+#[test]
+fn workers_have_the_same_report(rt: HostRuntime) -> Result<(), Fail> {
+    for (words, probes, status, text) in [
+        (CHECK, FILE, 0, PASSED),
+        (CHECK, TWICE_WRONG, 4, b"MALFORMED offset=46\n".as_slice()),
+        (PASS, FILE, 2, b"USAGE\n".as_slice()),
+    ] {
+        let alloc = rt.alloc();
+        let words = owned(alloc, words)?;
+        let image = Vec::from_slice(alloc, IMAGE)?;
+        let mut image = MemSource::new(image, 20, Vec::new(alloc));
+        let mut probes = MemSource::new(hex::decode(alloc, probes)?, 20, Vec::new(alloc));
+        let mut out = MemSink::new(alloc, 1000, Vec::new(alloc))?;
+        let found = run_check(
+            &rt,
+            alloc,
+            &words,
+            &mut image,
+            &mut probes,
+            &mut out,
+            &FreeGate,
+        );
+        assert_eq!(rt; out.bytes(), text);
+        assert_eq!(rt; found, status);
     }
     Ok(())
 }

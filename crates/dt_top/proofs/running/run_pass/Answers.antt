@@ -3,4 +3,4 @@ use Rattle.dt_top.proofs.running.run_pass.Goals as goal
 
 pub returns-clause-ran : goal.returns-clause-ran
 returns-clause-ran g c = λ asked judges wants.
-    ran_of_reply _ _ _ _ _ c.put_reply.result (c.check_reply-reply.ensures.came asked judges wants) c.put_reply.ensures.put
+    ran_of_reply _ _ _ _ _ c.put_reply.result (c.pass_reply-reply.ensures.came asked judges wants) c.put_reply.ensures.put
