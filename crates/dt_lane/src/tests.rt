@@ -84,11 +84,7 @@ fn counts(lane: Lane) -> (u32, usize, bool) {
 }
 
 /// Whether the only record of a hart, a Beat at 5, is judged below each of these least marks in turn.
-fn judged_below(
-    alloc: Global,
-    hart: u8,
-    marks: [Option<u64>; 3],
-) -> Result<[bool; 3], AllocError> {
+fn judged_below(alloc: Global, hart: u8, marks: [Option<u64>; 3]) -> Result<[bool; 3], AllocError> {
     let m = no_writes(alloc);
     let mut fed = fed(alloc, hart, &[beat(5, hart)])?;
     takes(&mut fed.lane);
