@@ -43,8 +43,13 @@ def simulate(image: Path, probes: Path, *more: str) -> Answer:
 
 
 def judge(image: Path, probes: Path) -> Answer:
-    """What difftest says of a run."""
-    return answer_of([DIFFTEST, "pass", str(image), str(probes)], SECONDS_FOR_A_JUDGEMENT)
+    """What difftest says of a run, which has to be the same on one thread and with workers."""
+    one_thread, workers = (
+        answer_of([DIFFTEST, command, str(image), str(probes)], SECONDS_FOR_A_JUDGEMENT) for command in ("pass", "check")
+    )
+    if workers != one_thread:
+        return Answer(-1, f"pass and check differ: {one_thread.first_line!r} and {workers.first_line!r}")
+    return one_thread
 
 
 def count_of(report: str, name: str) -> int:
