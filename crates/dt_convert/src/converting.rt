@@ -1,4 +1,4 @@
-ghost use Rattle.std.specs.Prelude.{◌≡◌, ◌≢◌, ◌≤◌, ◌⊎◌, ℕ, List, IfErr, IfOk, IfSome, IsSomeAnd, OnOk, Some};
+ghost use Rattle.std.specs.Prelude.{◌≡◌, ◌≢◌, ◌≤◌, ◌⊎◌, ℕ, List, Option, IfErr, IfOk, IfSome, IsSomeAnd, OnOk, Some};
 ghost use Rattle.dt_source.specs.Faults.{Rose};
 ghost use Rattle.dt_source.specs.Known.{Appends};
 ghost use Rattle.dt_record.specs.Streams.{IsFresh};
@@ -23,6 +23,8 @@ fn file_of<P: Probes>(alloc: Global, version: FileVersion, probes: &mut P) -> Re
     ensures stopped { IfErr result (λ last. IfSome (P.left probes.old) (λ answers. StopsAt answers last)) }
     ensures stopped_ended { IfErr result (λ last. last ≢ Next.OutOfMemory → (P.progress probes.new).ended ≡ Some last) }
     ensures read_fault { IfErr result (λ last. last ≡ Next.ReadFault → Rose (P.faults probes.old) (P.faults probes.new)) }
+    ensures needed { IfErr result (λ last. last ≡ Next.ReadFault
+        → (bytes : Option (List ℕ)) → P.has_origin probes.old bytes → P.leaves_open probes.new bytes) }
     ensures never_falls { P.faults probes.old ≤ P.faults probes.new }
     ensures same_lent { P.lent probes.new ≡ P.lent probes.old }
 {
@@ -92,6 +94,7 @@ pub fn convert_probes<P: Probes, O: Sink>(
         → IsSomeAnd (P.progress probes.new).ended (λ last. result ≡ last_status last) }
 
     ensures read_fault { result ≡ 5 → Rose (P.faults probes.old) (P.faults probes.new) }
+    ensures needed { result ≡ 5 → (bytes : Option (List ℕ)) → P.has_origin probes.old bytes → P.leaves_open probes.new bytes }
     ensures read_fault_text { result ≡ 5 → Appends (O.written out.old) read_fault_line (O.written out.new) }
     ensures memory { result ≡ 7 → Appends (O.written out.old) memory_line (O.written out.new) }
     ensures write_fault { result ≡ 6 → Rose (O.faults out.old) (O.faults out.new) }

@@ -1,4 +1,4 @@
-ghost use Rattle.std.specs.Prelude.{◌≡◌, ◌≢◌, ◌≤◌, ◌⊎◌, ℕ, List, IfOk, IfSome, IsSomeAnd, OnErr, Some};
+ghost use Rattle.std.specs.Prelude.{◌≡◌, ◌≢◌, ◌≤◌, ◌⊎◌, ℕ, List, Option, IfOk, IfSome, IsSomeAnd, OnErr, Some};
 ghost use Rattle.dt_source.specs.Faults.{Rose};
 ghost use Rattle.dt_source.specs.Known.{Appends};
 ghost use Rattle.dt_record.specs.declared.records.Record.{Record};
@@ -24,6 +24,8 @@ fn put_records<P: Probes, O: Sink>(
         × IfSome (P.left probes.old) (λ answers. CameTo answers given last)) }
     ensures ended { IfOk result (λ last. last ≢ Next.OutOfMemory → (P.progress probes.new).ended ≡ Some last) }
     ensures read_fault { IfOk result (λ last. last ≡ Next.ReadFault → Rose (P.faults probes.old) (P.faults probes.new)) }
+    ensures needed { IfOk result (λ last. last ≡ Next.ReadFault
+        → (bytes : Option (List ℕ)) → P.has_origin probes.old bytes → P.leaves_open probes.new bytes) }
     ensures write_fault { OnErr result (Rose (O.faults out.old) (O.faults out.new)) }
     ensures write_fault_front { OnErr result ((text : List ℕ)
         × IfSome (P.left probes.old) (λ answers. text ≡ dump_text answers)
@@ -70,6 +72,7 @@ pub fn dump_probes<P: Probes, O: Sink>(alloc: Global, probes: &mut P, out: &mut 
         → IsSomeAnd (P.progress probes.new).ended (λ last. result ≡ last_status last) }
 
     ensures read_fault { result ≡ 5 → Rose (P.faults probes.old) (P.faults probes.new) }
+    ensures needed { result ≡ 5 → (bytes : Option (List ℕ)) → P.has_origin probes.old bytes → P.leaves_open probes.new bytes }
     ensures read_fault_text { result ≡ 5 → (text : List ℕ)
         × IsCutShort (P.left probes.old) read_fault_line text × Appends (O.written out.old) text (O.written out.new) }
     ensures memory { result ≡ 7 → (text : List ℕ)

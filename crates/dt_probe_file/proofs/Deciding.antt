@@ -16,7 +16,8 @@ use Rattle.dt_record_bytes.proofs.SpellingLaws.{length-double, double_at_front, 
 use Rattle.dt_probe_file.proofs.HeaderFields.{get_or_behind}
 use Rattle.dt_probe_file.specs.declared.fronts.Front.{Front}
 use Rattle.dt_probe_file.specs.declared.fronts.Front.TheVariants as fronts
-use Rattle.dt_probe_file.specs.Fronts.{IsRead, LacksRecord, IsDecoded, IsFront, IsEndFront, HasTag}
+use Rattle.dt_probe_file.specs.Begun.{HasTag}
+use Rattle.dt_probe_file.specs.Fronts.{IsRead, LacksRecord, IsDecoded, IsFront, IsEndFront}
 use Rattle.dt_probe_file.proofs.Proposed.{second_of, read_of_next}
 use Rattle.dt_probe_file.proofs.OneAnswer.{record_has_no_end_tag}
 use Rattle.dt_probe_file.proofs.Exists.{next_of_read, none_may, length-end, spelled_is_long}

@@ -1,4 +1,5 @@
 pub mod AskingFor
+pub mod Broken
 pub mod Deciding
 pub mod Exists
 pub mod Files

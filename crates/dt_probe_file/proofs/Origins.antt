@@ -1,5 +1,5 @@
 -- How far a stream has come in the bytes of its source.
-use Rattle.std.proofs.Common.{◌≡◌, ℕ, ◌+◌, ◌≤◌, ◌⊎◌, inl, inr, Bool, List, [], ◌∷◌, ◌++◌, length, drop, filter, Option, Some, None, IsNone, refl, sym, ap, ◌∙◌, subst, append_assoc, arith}
+use Rattle.std.proofs.Common.{◌≡◌, ℕ, ◌+◌, ◌≤◌, ◌⊎◌, inl, inr, Bool, cond, List, [], ◌∷◌, ◌++◌, length, drop, filter, Option, Some, None, IsNone, refl, sym, ap, ◌∙◌, subst, append_assoc, arith}
 use Rattle.std.proofs.lemmas.List.{append-nil}
 use Rattle.dt_source.specs.Known.{TakesFrom}
 use Rattle.dt_record.proofs.CountedWrites.{length-writing}
@@ -15,15 +15,17 @@ use Rattle.dt_probe_file.specs.declared.reading.Opened.{Opened}
 use Rattle.dt_probe_file.specs.declared.fronts.Front.TheVariants as fronts
 use Rattle.dt_probe_file.specs.declared.headers.Heading.TheVariants as headings
 use Rattle.dt_probe_file.specs.Asking.{LeaveOpen, HadToRead}
-use Rattle.dt_probe_file.specs.Fronts.{IsBegun, IsFront, reading_of}
-use Rattle.dt_probe_file.specs.Headers.{IsCutHeader, IsHeading}
-use Rattle.dt_probe_file.specs.Origins.{IsFileFront, reading_after, IsOpenFront, HasOpenFront, IsAnswered, HasOrigin, KeepsOrigin}
+use Rattle.dt_probe_file.specs.Begun.{IsBegun, IsCutHeader}
+use Rattle.dt_probe_file.specs.Fronts.{IsFront, reading_of}
+use Rattle.dt_probe_file.specs.Headers.{IsHeading}
+use Rattle.dt_probe_file.specs.OpenFronts.{IsFileFront, IsOpenFront, HasOpenFront}
+use Rattle.dt_probe_file.specs.Origins.{reading_after, IsAnswered, HasOrigin, KeepsOrigin}
 use Rattle.dt_probe_file.specs.Parts.{ReadsOn}
 use Rattle.dt_probe_file.proofs.HeldParts.{taken_twice}
 
 -- ---- one record more
 
-events_after : (s : Reading) (records : List Record) → (reading_after s records).events ≡ s.events + length records
+pub events_after : (s : Reading) (records : List Record) → (reading_after s records).events ≡ s.events + length records
 events_after s [] = omega arith
 events_after s (r ∷ rs) = let e = events_after (after_record s r) rs in omega arith
 
@@ -57,9 +59,17 @@ records_more : (s : Reading) (records : List Record) (r : Record) → AreRecords
 records_more s [] r each next = (next, tt)
 records_more s (q ∷ rs) r each next = (each.0, records_more (after_record s q) rs r each.1 next)
 
-length_more : (records : List Record) (r : Record) → length (records ++ r ∷ []) ≡ length records + 1
+pub length_more : (records : List Record) (r : Record) → length (records ++ r ∷ []) ≡ length records + 1
 length_more [] r = refl
 length_more (q ∷ rs) r = let e = length_more rs r in omega arith
+
+pub writing_more : (records : List Record) (r : Record) → length (filter writes_memory (records ++ r ∷ [])) ≡ length (filter writes_memory records) + cond (writes_memory r) 1 0
+writing_more [] r = let e = length-writing r [] in omega arith
+writing_more (q ∷ rs) r =
+    let e = writing_more rs r in
+    let first = length-writing q rs in
+    let now = length-writing q (rs ++ r ∷ []) in
+    omega arith
 
 -- the first bytes of a file with one record more
 front_more : (front spelling : List ℕ) (version : Version) (harts : ℕ) (wide : Bool) (records : List Record) (r : Record)

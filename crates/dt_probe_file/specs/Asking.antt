@@ -4,8 +4,7 @@ use Rattle.dt_source.specs.Known.{TakesFrom}
 use Rattle.dt_record.specs.Spelling.{end_bytes}
 use Rattle.dt_probe_file.specs.declared.reading.Opened.{Opened}
 use Rattle.dt_record.specs.Versions.{version_of}
-use Rattle.dt_probe_file.specs.Fronts.{IsBegun}
-use Rattle.dt_probe_file.specs.Headers.{IsCutHeader}
+use Rattle.dt_probe_file.specs.Begun.{IsBegun, IsCutHeader}
 
 -- The bytes behind the last answer leave the next one open. Before the header they are the beginning of
 -- one. Behind it there is none, or they are the beginning of an end or of a record, or just the end,

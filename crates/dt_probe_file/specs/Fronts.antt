@@ -1,4 +1,4 @@
-use Rattle.std.specs.Prelude.{ℕ, ◌≡◌, ◌<◌, ◌≤◌, ◌*◌, ◌+◌, ◌⊎◌, List, [], ◌∷◌, ◌++◌, length, drop, slice_index}
+use Rattle.std.specs.Prelude.{ℕ, ◌≡◌, ◌<◌, ◌≤◌, ◌*◌, ◌+◌, List, ◌++◌, length, drop, slice_index}
 use Rattle.dt_record.specs.declared.limits.TheConstants.{RECORD_LIMIT, WRITE_LIMIT}
 use Rattle.dt_record.specs.declared.records.Record.{Record}
 use Rattle.dt_record.specs.declared.writes.What.{What}
@@ -10,8 +10,7 @@ use Rattle.dt_record.specs.Versions.{version_of}
 use Rattle.dt_record.specs.Answers.{Reading, spelled_next, GoesOn, IsBroken}
 use Rattle.dt_record_bytes.specs.declared.decoded.Decoded.{Decoded}
 use Rattle.dt_record_bytes.specs.declared.decoded.Decoded.TheVariants.{Got, Short, Bad}
-use Rattle.dt_record_bytes.specs.WideAnswer.{IsCut}
-use Rattle.dt_short_bytes.specs.ShortForms.{IsUnfinished}
+use Rattle.dt_probe_file.specs.Begun.{IsBegun, IsCutRecord}
 use Rattle.dt_probe_file.specs.declared.reading.Opened.{Opened}
 use Rattle.dt_probe_file.specs.declared.fronts.Front.{Front}
 use Rattle.dt_probe_file.specs.declared.fronts.Front.TheVariants.{Event, End, Begun, Wrong}
@@ -55,12 +54,6 @@ pub record IsRead (version : spelling.Version) (last : ℕ → ℕ) (bytes : Lis
 abbrev pub LacksRecord : spelling.Version → (ℕ → ℕ) → List ℕ → Type 0
 LacksRecord version last bytes = (r : Record) (rest : List ℕ) → IsRead version last bytes r rest → ⊥
 
--- the bytes are only the beginning of what may be a record: in version 1 they are fewer than the kind of
--- their tag has, in version 2 they are a form once at least one more has come
-abbrev pub IsCutRecord : spelling.Version → List ℕ → Type 0
-IsCutRecord spelling.One bytes = IsCut bytes
-IsCutRecord spelling.Two bytes = IsUnfinished bytes
-
 -- what the answer to bytes as a record tells
 abbrev pub IsDecoded : spelling.Version → (ℕ → ℕ) → List ℕ → Decoded → Type 0
 IsDecoded version last bytes (Got r len) =
@@ -68,18 +61,6 @@ IsDecoded version last bytes (Got r len) =
     × (len ≤ length bytes)
 IsDecoded version last bytes Short = LacksRecord version last bytes × (length bytes < 1024) × IsCutRecord version bytes
 IsDecoded version last bytes (Bad at) = (more : List ℕ) → LacksRecord version last (bytes ++ more)
-
--- the first byte is this one
-abbrev pub HasTag : ℕ → List ℕ → Type 0
-HasTag tag bytes = (rest : List ℕ) × (bytes ≡ tag ∷ rest)
-
--- the tag of an end, and fewer bytes than an end has
-abbrev pub IsCutEnd : List ℕ → Type 0
-IsCutEnd bytes = HasTag 255 bytes × (length bytes < 9)
-
--- no byte, or only the beginning of an end or of what may be a record
-abbrev pub IsBegun : spelling.Version → List ℕ → Type 0
-IsBegun version bytes = (bytes ≡ []) ⊎ (IsCutEnd bytes ⊎ IsCutRecord version bytes)
 
 -- a record of which this many bytes are the spelling, the end, the beginning of one of both, or what is
 -- neither, whatever follows

@@ -1,6 +1,7 @@
-use Rattle.std.specs.Prelude.{ℕ, ◌≡◌, ◌<◌, ◌≤◌, ◌==◌, ◌||◌, Bool, if◌then◌else◌, None, Some, List, [], ◌∷◌, ◌++◌, length, drop, nat_lt, slice_index}
+use Rattle.std.specs.Prelude.{ℕ, ◌≡◌, ◌≤◌, ◌==◌, ◌||◌, Bool, if◌then◌else◌, Some, List, [], ◌∷◌, ◌++◌, length, drop, nat_lt, slice_index}
 use Rattle.dt_record.specs.ProbeFile.{header_bytes}
 use Rattle.dt_record.specs.Answers.{starts_with_any, header_fault}
+use Rattle.dt_probe_file.specs.Begun.{IsCutHeader}
 use Rattle.dt_probe_file.specs.declared.headers.Heading.{Heading}
 use Rattle.dt_probe_file.specs.declared.headers.Heading.TheVariants.{Whole, Begun, Wrong}
 use Rattle.dt_record.specs.Versions.{version_of}
@@ -27,10 +28,6 @@ field_start place =
     else if nat_lt place 11 then 10
     else if nat_lt place 12 then 11
     else 12
-
--- fewer bytes than a header has, and more make a header of them
-abbrev pub IsCutHeader : List ℕ → Type 0
-IsCutHeader bytes = (length bytes < 16) × (more : List ℕ) × (header_fault (bytes ++ more) ≡ None)
 
 -- a whole header, the beginning of one, or what is neither, whatever follows: with the place of the field that isn't whole or wrong
 abbrev pub IsHeading : List ℕ → Heading → Type 0

@@ -1,10 +1,13 @@
 pub mod Asking
+pub mod Begun
+pub mod Broken
 pub mod Computing
 pub mod FileStream
 pub mod Found
 pub mod Fronts
 pub mod Headers
 pub mod Left
+pub mod OpenFronts
 pub mod Origins
 pub mod Parts
 pub mod Progress

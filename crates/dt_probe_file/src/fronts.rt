@@ -2,7 +2,8 @@ ghost use Rattle.std.specs.Prelude.{◌≡◌, ◌≢◌, ◌<◌, ◌≤◌, �
 ghost use Rattle.dt_record.specs.ProbeFile.{IsNext};
 ghost use Rattle.dt_record.specs.Spelling.{double, end_bytes, record_bytes};
 ghost use Rattle.dt_record.specs.Versions.{version_of};
-ghost use Rattle.dt_probe_file.specs.Fronts.{IsSound, IsFront, IsDecoded, HasTag, IsEndFront, reading_of};
+ghost use Rattle.dt_probe_file.specs.Begun.{HasTag};
+ghost use Rattle.dt_probe_file.specs.Fronts.{IsSound, IsFront, IsDecoded, IsEndFront, reading_of};
 
 use crate::reading::Opened;
 use dt_record::{Record, Version};

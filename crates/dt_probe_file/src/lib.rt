@@ -12,5 +12,5 @@ mod steps;
 #[cfg(test)]
 mod tests;
 
-pub use laws::{file_answers, one_list};
+pub use laws::{broken_answers, file_answers, one_list};
 pub use probes::{FileProbes, Room};

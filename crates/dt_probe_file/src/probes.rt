@@ -4,7 +4,8 @@ ghost use Rattle.dt_record.specs.Streams.{Continues, TakesAnswer, Rose, IsFresh}
 ghost use Rattle.dt_record.specs.declared.streams.Next.{Next};
 ghost use Rattle.dt_probe_file.specs.Asking.{LeaveOpen, HadToRead};
 ghost use Rattle.dt_probe_file.specs.Fronts.{IsSound};
-ghost use Rattle.dt_probe_file.specs.Origins.{HasOpenFront, HasOrigin};
+ghost use Rattle.dt_probe_file.specs.OpenFronts.{HasOpenFront};
+ghost use Rattle.dt_probe_file.specs.Origins.{HasOrigin};
 ghost use Rattle.dt_probe_file.specs.Parts.{whole};
 ghost use Rattle.dt_probe_file.specs.Progress.{ended_by, progress_of};
 ghost use Rattle.dt_probe_file.specs.Told.{AreToldOf};

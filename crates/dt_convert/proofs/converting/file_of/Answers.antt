@@ -8,6 +8,7 @@ pub loop-harts-init : goal.loop-harts-init
 loop-harts-init g c = record {
   draft = rw c.new-bytes.ensures.items (starts _ _ _ _ c.requires refl (λ hart below. get_or-replicate 8 hart 0 0 below));
   counted = omega arith;
+  same_origin = λ bytes origin. origin;
   same_lent = refl;
 }
 
@@ -23,5 +24,6 @@ loop-harts-preserved g c =
     record {
       draft = rw (c.in-Ok-put_record.ensures.spelled, c.in-Ok-put_record.ensures.stamped) (after_record _ _ _ _ _ _ _ _ r d c.in-Event.ensures.told step fits);
       counted = omega (arith, c.loop-harts.invariant.counted, c.in-Event.ensures.rising);
+      same_origin = λ bytes origin. c.in-Event.ensures.same_origin bytes (c.loop-harts.invariant.same_origin bytes origin);
       same_lent = c.in-Event.ensures.same_lent ∙ c.loop-harts.invariant.same_lent;
     }

@@ -1,4 +1,4 @@
-use Rattle.std.proofs.Common.{◌≡◌, ◌≤◌}
+use Rattle.std.proofs.Common.{◌≡◌, ◌≤◌, ℕ, List, Option}
 use Rattle.dt_dump.specs.Reading.{remaining}
 use Rattle.dt_convert.specs.Convert.{version_of}
 use Rattle.dt_convert.proofs.Drafts.{IsDraft}
@@ -11,6 +11,7 @@ invariant-loop-harts g l =
     record {
       draft : IsDraft (left l.fn.probes) (left l.probes) (version_of l.version) l.bytes.items l.stamps (g.P.Probes.progress l.probes);
       counted : g.P.Probes.faults l.fn.probes ≤ g.P.Probes.faults l.probes;
+      same_origin : (bytes : Option (List ℕ)) → g.P.Probes.has_origin l.fn.probes bytes → g.P.Probes.has_origin l.probes bytes;
       same_lent : g.P.Probes.lent l.probes ≡ g.P.Probes.lent l.fn.probes;
     }
 

@@ -35,6 +35,11 @@ returns-in-Ok-clause-read_fault g c = λ five.
     let last = c.put_last.ensures.whole (λ e. cc) (λ e. cc) in
     c.in-Ok.ensures.read_fault (status_of_read_fault c.in-Ok.last (sym last.0 ∙ five))
 
+pub returns-in-Ok-clause-needed : goal.returns-in-Ok-clause-needed
+returns-in-Ok-clause-needed g c = λ five.
+    let last = c.put_last.ensures.whole (λ e. cc) (λ e. cc) in
+    c.in-Ok.ensures.needed (status_of_read_fault c.in-Ok.last (sym last.0 ∙ five))
+
 pub returns-in-Ok-clause-read_fault_text : goal.returns-in-Ok-clause-read_fault_text
 returns-in-Ok-clause-read_fault_text g c = λ five.
     let came = c.in-Ok.ensures.came in

@@ -12,6 +12,7 @@ loop-event-init g c = record {
   underway = starts _ _ _ _ c.requires refl (λ hart below. get_or-replicate 8 hart 0 0 below);
   probes_counted = omega arith;
   out_counted = omega arith;
+  same_origin = λ bytes origin. origin;
   same_lent = refl;
 }
 
@@ -31,6 +32,7 @@ loop-event-preserved g c =
           (after_record _ _ _ _ _ _ c.loop-event.counts _ _ c.in-Event.event u c.in-Event.ensures.told c.in-Event.ensures.step fits c.in-Ok.ensures.ok);
       probes_counted = omega (arith, c.loop-event.invariant.probes_counted, c.in-Event.ensures.rising);
       out_counted = omega (arith, c.loop-event.invariant.out_counted, c.in-Ok.ensures.never_falls);
+      same_origin = λ bytes origin. c.in-Event.ensures.same_origin bytes (c.loop-event.invariant.same_origin bytes origin);
       same_lent = c.in-Event.ensures.same_lent ∙ c.loop-event.invariant.same_lent;
     }
 

@@ -1,6 +1,6 @@
 use Rattle.std.proofs.Common.{◌∙◌, Some, inl, refl, subst}
 use Rattle.dt_record.specs.Versions.{version_of}
-use Rattle.dt_probe_file.specs.Fronts.{IsBegun}
+use Rattle.dt_probe_file.specs.Begun.{IsBegun}
 use Rattle.dt_probe_file.proofs.HeldParts.{reads_stay, reads_twice}
 use Rattle.dt_probe_file.proofs.AskingFor.{had_to_read, still_open}
 use Rattle.dt_probe_file.proofs.finding.find.Goals as goal

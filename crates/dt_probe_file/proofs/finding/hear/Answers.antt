@@ -1,5 +1,5 @@
 use Rattle.std.proofs.Common.{◌∙◌, None, inl, refl, subst}
-use Rattle.dt_probe_file.specs.Headers.{IsCutHeader}
+use Rattle.dt_probe_file.specs.Begun.{IsCutHeader}
 use Rattle.dt_probe_file.proofs.HeldParts.{reads_stay, reads_twice}
 use Rattle.dt_probe_file.proofs.AskingFor.{had_to_read, still_open}
 use Rattle.dt_probe_file.proofs.finding.hear.Goals as goal
