@@ -1,4 +1,5 @@
 use Rattle.std.specs.Prelude.{ℕ, ◌≡◌, ◌<◌, ◌≤◌, ◌*◌, ◌+◌, ◌⊎◌, List, [], ◌∷◌, ◌++◌, length, drop, slice_index}
+use Rattle.dt_record.specs.declared.limits.TheConstants.{RECORD_LIMIT, WRITE_LIMIT}
 use Rattle.dt_record.specs.declared.records.Record.{Record}
 use Rattle.dt_record.specs.declared.writes.What.{What}
 use Rattle.dt_record.specs.declared.writes.What.TheVariants.{Records, Writes}
@@ -34,8 +35,8 @@ pub record IsSound (o : Opened) : Type 0 where
   pub some_hart : 1 ≤ o.harts
   pub few_harts : o.harts ≤ 8
   pub eight : length o.last ≡ 8
-  pub few_events : o.events ≤ 4_194_304
-  pub few_writes : o.writes ≤ 1_048_576
+  pub few_events : o.events ≤ RECORD_LIMIT
+  pub few_writes : o.writes ≤ WRITE_LIMIT
   pub small : o.at ≤ 16 + 1024 * o.events
 
 -- version 2 spells no stamp below the last one
@@ -90,8 +91,8 @@ IsFront s bytes Wrong = (more : List ℕ) → IsBroken s (bytes ++ more)
 
 -- the number of the first record or write too many
 abbrev pub first_too_many : What → ℕ
-first_too_many Records = 4_194_305
-first_too_many Writes = 1_048_577
+first_too_many Records = RECORD_LIMIT + 1
+first_too_many Writes = WRITE_LIMIT + 1
 
 -- bytes with an end's tag are an end of so many records, the beginning of one, or no such end
 abbrev pub IsEndFront : ℕ → List ℕ → Front → Type 0

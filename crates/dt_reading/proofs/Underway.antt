@@ -1,5 +1,5 @@
 -- A stream between two of its answers.
-use Rattle.std.proofs.Common.{◌≡◌, ◌∙◌, ◌<◌, ◌≤◌, ◌+◌, ◌==◌, ◌≢◌, ℕ, Bool, true, false, List, [], ◌∷◌, ◌++◌, Option, Some, None, IsSome, IsSomeAnd, IfSome, length, cond, map, filter, refl, sym, ap, subst, append_assoc, arith}
+use Rattle.std.proofs.Common.{◌≡◌, ◌∙◌, ◌<◌, ◌≤◌, ◌+◌, ◌==◌, ◌≢◌, ℕ, Bool, true, false, List, [], ◌∷◌, ◌++◌, Option, Some, None, IsSome, IfSome, length, cond, map, filter, refl, sym, ap, subst, append_assoc, arith}
 use Rattle.std.proofs.lemmas.List.{length-append, map-append}
 use Rattle.std.proofs.lemmas.List.Elements.{filter-append}
 use Rattle.dt_lists.proofs.Lists.{some_and}
@@ -127,7 +127,7 @@ fewer_after_header old new harts wide t = rw (t.first, t.harts_are) (omega arith
 
 -- ---- a record
 
-stamps_after-push : (last : ℕ → ℕ) (rs : List Record) (r : Record) (hart : ℕ) → stamps_after last (rs ++ r ∷ []) hart ≡ stamped (stamps_after last rs) r hart
+pub stamps_after-push : (last : ℕ → ℕ) (rs : List Record) (r : Record) (hart : ℕ) → stamps_after last (rs ++ r ∷ []) hart ≡ stamped (stamps_after last rs) r hart
 stamps_after-push last [] r hart = refl
 stamps_after-push last (q ∷ qs) r hart = stamps_after-push (stamped last q) qs r hart
 

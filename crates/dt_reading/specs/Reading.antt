@@ -1,4 +1,5 @@
 use Rattle.std.specs.Prelude.{ℕ, ◌≡◌, ◌≤◌, Bool, Option, None, Some, IfSome, option_map, List, [], ◌∷◌, ◌++◌, length, map, filter}
+use Rattle.dt_record.specs.declared.limits.TheConstants.{HART_LIMIT, RECORD_LIMIT, WRITE_LIMIT}
 use Rattle.dt_record.specs.declared.records.Record.{Record}
 use Rattle.dt_record.specs.declared.streams.Next.{Next}
 use Rattle.dt_record.specs.declared.streams.Next.TheVariants as next
@@ -14,10 +15,10 @@ use Rattle.dt_verdict.specs.declared.answers.Refusal.TheVariants.{Malformed, Lim
 -- records that may stand in a probe file with so many harts
 pub record AreStreamed (harts : ℕ) (records : List Record) : Type 0 where
   pub some_hart : 1 ≤ harts
-  pub few_harts : harts ≤ 8
+  pub few_harts : harts ≤ HART_LIMIT
   pub each : AreRecords harts no_stamps records
-  pub few_records : length records ≤ 4_194_304
-  pub few_writes : length (filter writes_memory records) ≤ 1_048_576
+  pub few_records : length records ≤ RECORD_LIMIT
+  pub few_writes : length (filter writes_memory records) ≤ WRITE_LIMIT
 
 -- the answers with which a stream begins: a header, and records
 abbrev pub first_answers : (harts : ℕ) (wide : Bool) → List Record → List Next

@@ -1,5 +1,6 @@
 -- How far a stream of probe records was read, between two of its answers (this project's own).
-use Rattle.std.specs.Prelude.{ℕ, ◌≡◌, ◌≤◌, ◌-◌, Bool, cond, Option, None, Some, IfSome, is_some, List, [], ◌∷◌, ◌++◌, length, filter}
+use Rattle.std.specs.Prelude.{ℕ, ◌≡◌, ◌≤◌, ◌+◌, ◌-◌, Bool, cond, Option, None, Some, IfSome, is_some, List, [], ◌∷◌, ◌++◌, length, filter}
+use Rattle.dt_record.specs.declared.limits.TheConstants.{HART_LIMIT, RECORD_LIMIT, WRITE_LIMIT}
 use Rattle.dt_record.specs.declared.records.Record.{Record}
 use Rattle.dt_record.specs.declared.streams.Next.{Next}
 use Rattle.dt_record.specs.ProbeFile.{AreRecords, no_stamps, stamped}
@@ -10,7 +11,7 @@ use Rattle.dt_reading.specs.Reading.{first_answers}
 -- the header came, and nothing behind it
 pub record IsBehindHeader (harts : ℕ) (wide : Bool) (p : Progress) : Type 0 where
   pub some_hart : 1 ≤ harts
-  pub few_harts : harts ≤ 8
+  pub few_harts : harts ≤ HART_LIMIT
   pub harts_are : p.harts ≡ Some harts
   pub wide_is : p.wide ≡ wide
   pub no_stamps : (hart : ℕ) → p.stamps hart ≡ 0
@@ -33,13 +34,13 @@ pub record IsOpened (h harts : ℕ) (wide : Bool) (records : List Record) (p : P
   pub harts_are : h ≡ harts
   pub wide_is : p.wide ≡ wide
   pub some_hart : 1 ≤ h
-  pub few_harts : h ≤ 8
+  pub few_harts : h ≤ HART_LIMIT
   pub each : AreRecords h no_stamps records
   pub stamps : (hart : ℕ) → p.stamps hart ≡ stamps_after no_stamps records hart
   pub events : length records ≡ p.events
-  pub few_events : p.events ≤ 4_194_304
+  pub few_events : p.events ≤ RECORD_LIMIT
   pub writes : length (filter writes_memory records) ≡ p.writes
-  pub few_writes : p.writes ≤ 1_048_576
+  pub few_writes : p.writes ≤ WRITE_LIMIT
 
 -- these answers came of some, and these are left
 pub record HasGiven (answers : List Next) (left : Option (List Next)) (given : List Next) : Type 0 where
@@ -61,4 +62,4 @@ pub record HaveBegun (told : Option (List Next)) (harts : ℕ) (wide : Bool) (re
 
 -- how many more answers may come
 abbrev pub remaining : Progress → ℕ
-remaining p = cond (is_some p.harts) (4_194_305 - p.events) 4_194_306
+remaining p = cond (is_some p.harts) (RECORD_LIMIT + 1 - p.events) (RECORD_LIMIT + 2)

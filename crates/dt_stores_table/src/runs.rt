@@ -1,5 +1,6 @@
 //! Random runs, of which each step goes to the store buffer and to the plain list.
 ghost use Rattle.std.specs.Prelude.{◌≡◌, ◌+◌, ◌<◌, ◌≤◌};
+ghost use Rattle.dt_record.specs.declared.limits.TheConstants.{RECORD_LIMIT};
 ghost use Rattle.dt_stores.specs.Marks.{KeepsMarks};
 ghost use Rattle.dt_stores.specs.Places.{is_store_place};
 
@@ -78,7 +79,7 @@ pub fn are_same(alloc: Global, stores: &Stores, plain: &Plain) -> Result<bool, A
 
 /// A store, a fence or a drain.
 fn step(stores: &mut Stores, plain: &mut Plain, seed: u64, key: Key) -> Result<(), AllocError>
-    requires { (stores.old.ww < 4194304) × (stores.old.wr < 4194304) }
+    requires { (stores.old.ww < RECORD_LIMIT) × (stores.old.wr < RECORD_LIMIT) }
     ensures marks { KeepsMarks stores.old stores.new }
     ensures ww { stores.new.ww ≤ stores.old.ww + 1 }
     ensures wr { stores.new.wr ≤ stores.old.wr + 1 }
