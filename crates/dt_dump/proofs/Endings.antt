@@ -7,7 +7,7 @@ use Rattle.dt_record.specs.declared.records.Record.{Record}
 use Rattle.dt_record.specs.declared.streams.Next.{Next}
 use Rattle.dt_record.specs.declared.streams.Next.TheVariants.{Header, Event, End, Malformed, Limit, ReadFault, OutOfMemory}
 use Rattle.dt_dump.specs.Dump.{record_lines, records_in, end_of, last_line, last_status, dump_text, stream_status, memory_line, BeginsWith, IsCutShort, MayDump, AppendsPart}
-use Rattle.dt_dump.specs.Reading.{CameTo}
+use Rattle.dt_dump.specs.Last.{CameTo}
 use Rattle.dt_dump.proofs.Texts.{Appends-append, part_last}
 
 -- records that came to an answer are the first

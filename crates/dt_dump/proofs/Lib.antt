@@ -1,4 +1,4 @@
+pub mod Dumped
 pub mod Endings
-pub mod ReadingLaws
+pub mod ReadRecords
 pub mod Texts
-pub mod Underway

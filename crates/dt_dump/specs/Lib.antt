@@ -1,2 +1,2 @@
 pub mod Dump
-pub mod Reading
+pub mod Last

@@ -4,7 +4,7 @@ ghost use Rattle.dt_source.specs.Known.{Appends};
 ghost use Rattle.dt_record.specs.declared.records.Record.{Record};
 ghost use Rattle.dt_record.specs.Streams.{IsFresh};
 ghost use Rattle.dt_dump.specs.Dump.{AppendsPart, IsCutShort, MayDump, stream_status, dump_text, last_status, memory_line, read_fault_line, record_lines};
-ghost use Rattle.dt_dump.specs.Reading.{CameTo};
+ghost use Rattle.dt_dump.specs.Last.{CameTo};
 
 use crate::lines::{Stop, WRITE_FAULT, put_last, put_record};
 use dt_record::{Next, Probes};

@@ -1,4 +1,5 @@
-//! The report of a check: the verdict, what was counted, and where loads have their bytes from.
+//! The report of a check: the verdict, what was counted, and where loads have their bytes from. Other
+//! text may stand before it and behind it.
 #![tactic(auto)]
 
 mod lines;
@@ -8,5 +9,6 @@ mod reports;
 mod tests;
 mod texts;
 
-pub use reports::report;
+pub use lines::put_failed;
+pub use reports::{report, report_behind};
 pub use texts::Text;

@@ -1,4 +1,4 @@
-ghost use Rattle.std.specs.Prelude.{◌≡◌, ◌≤◌, ◌++◌, OnOk, length, sum_by};
+ghost use Rattle.std.specs.Prelude.{◌≡◌, ◌≤◌, ◌++◌, OnOk, length, sum_by, take, vec_len};
 ghost use Rattle.dt_text.specs.Line.{decimal_field};
 ghost use Rattle.dt_verdict.specs.declared.tallies.Counts.{Counts};
 ghost use Rattle.dt_report.specs.Report.{failed_text, verdict_line, total_line, hart_line, hart_lines, is_set, count_of, rules_line};
@@ -8,10 +8,12 @@ use dt_text::{put_decimal, put_double, put_number};
 use dt_verdict::{Counts, Failure, Noted, Verdict};
 use std::alloc::AllocError;
 
-/// Appends where and why a check fails.
+/// Appends where and why a check fails, in a line without its end. After want of memory `out` may
+/// end in a part of what was to come, behind what was there.
 #[tactic(auto, unfolding(crate::specs::Report::failed_text))]
-fn put_failed(out: &mut Vec<u8>, failure: &Failure) -> Result<(), AllocError>
-    ensures { OnOk result (out.new.items ≡ out.old.items ++ failed_text failure.now) }
+pub fn put_failed(out: &mut Vec<u8>, failure: &Failure) -> Result<(), AllocError>
+    ensures put { OnOk result (out.new.items ≡ out.old.items ++ failed_text failure.now) }
+    ensures front { take (vec_len out.old) out.new.items ≡ out.old.items }
 {
     out.extend_from_slice(b"FAIL")?;
     put_decimal(out, "stamp", failure.key.stamp)?;

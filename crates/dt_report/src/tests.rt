@@ -1,7 +1,7 @@
 //! Reports of checks by hand.
 ghost use Rattle.std.specs.Prelude.{◌≤◌, length};
 
-use crate::report;
+use crate::{Text, put_failed, report, report_behind};
 use dt_record::{Key, Letters, Origin, Reason, Sources};
 use dt_verdict::{Checked, Counts, Failure, HartCounts, Noted, NotedRecords, Tallies, Verdict};
 use std::alloc::{AllocError, Global};
@@ -55,6 +55,18 @@ fn noted(key: (u64, u8, u32), letters: Letters, count: u8, from: [Origin; 8]) ->
     }
 }
 
+/// The first record of hart 0 has another value than is due.
+const FIRST_VALUE: Failure = Failure {
+    key: Key {
+        stamp: 1,
+        hart: 0,
+        seq: 0,
+    },
+    reason: Reason::Value,
+    expected: 5,
+    found: 6,
+};
+
 #[test]
 fn one_addition_passes_or_fails(rt: HostRuntime) -> Result<(), AllocError> {
     let one = Counts {
@@ -74,17 +86,7 @@ rules L=0 S=0 P=0 I=0 D=0 C=0 Z=0
     );
     assert_eq!(rt; report(rt.alloc(), &passed, true)?.bytes(), text.as_slice());
 
-    let failure = Failure {
-        key: Key {
-            stamp: 1,
-            hart: 0,
-            seq: 0,
-        },
-        reason: Reason::Value,
-        expected: 5,
-        found: 6,
-    };
-    let failed = checked(rt.alloc(), Verdict::Fail(failure), &[NO_RECORDS], &[])?;
+    let failed = checked(rt.alloc(), Verdict::Fail(FIRST_VALUE), &[NO_RECORDS], &[])?;
     let text =
         b"FAIL stamp=1 hart=0 seq=0 reason=8 Value expected=0000000000000005 found=0000000000000006
 harts=1 records=0 writes=0
@@ -95,6 +97,22 @@ rules L=0 S=0 P=0 I=0 D=0 C=0 Z=0
         report(rt.alloc(), &failed, false)?.bytes(),
         text.as_slice()
     );
+    Ok(())
+}
+
+#[test]
+fn text_stands_before_and_behind(rt: HostRuntime) -> Result<(), AllocError> {
+    let passed = checked(rt.alloc(), Verdict::Pass, &[NO_RECORDS], &[])?;
+    let before = Text::of(Vec::from_slice(rt.alloc(), b"before\n")?);
+    let mut text = report_behind(before, &passed, false)?.into_vec();
+    put_failed(&mut text, &FIRST_VALUE)?;
+    let whole = b"before
+PASS
+harts=1 records=0 writes=0
+hart 0 retired=0 traps=0 loads=0 stores=0 atomics=0 drains=0
+rules L=0 S=0 P=0 I=0 D=0 C=0 Z=0
+FAIL stamp=1 hart=0 seq=0 reason=8 Value";
+    assert_eq!(rt; text.as_slice(), whole.as_slice());
     Ok(())
 }
 

@@ -2,7 +2,7 @@ ghost use Rattle.std.specs.Prelude.{◌≡◌};
 
 use std::marker::Model;
 
-/// A text of whole lines. A contract sees it as the list of its bytes.
+/// A text, as a report. A contract sees it as the list of its bytes.
 #[derive(Debug, Drop)]
 pub struct Text {
     text: Vec<u8>,
@@ -17,16 +17,25 @@ impl Model for Text {
 }
 
 impl Text {
-    pub(crate) fn of(text: Vec<u8>) -> Text
+    /// The text with these bytes.
+    pub fn of(text: Vec<u8>) -> Text
         ensures { result ≡ text.items }
     {
         Text { text }
     }
 
-    /// The bytes, all of ASCII. Each line ends with a line feed, the last one too.
+    /// Its bytes. Those of a report are all of ASCII, and each line ends with a line feed, the last
+    /// one too.
     pub fn bytes(&self) -> &[u8]
         ensures { result.now ≡ self.now }
     {
         self.text.as_slice()
+    }
+
+    /// Its bytes alone, behind which more may be put.
+    pub fn into_vec(self) -> Vec<u8>
+        ensures { result.items ≡ self }
+    {
+        self.text
     }
 }

@@ -1,5 +1,5 @@
 use Rattle.std.proofs.Common.{◌≡◌, ◌≤◌, ℕ, List, Option}
-use Rattle.dt_dump.specs.Reading.{remaining}
+use Rattle.dt_reading.specs.Underway.{remaining}
 use Rattle.dt_convert.specs.Convert.{version_of}
 use Rattle.dt_convert.proofs.Drafts.{IsDraft}
 use Rattle.dt_convert.proofs.converting.file_of.Given as goal
