@@ -33,35 +33,23 @@ abbrev two_stores : List Action
 two_stores = stored 2 line ∷ stored 3 0x8000_0108 ∷ []
 
 pub drain_of_one : drain_check two_stores line 0xff 1 one_seven 4 ≡ Ok tt
-<<<<<<< HEAD
-=======
 unfolding mask_over bytes_over
->>>>>>> b5be2b008375bba75950a23cab9d0ab4c5b7bcff
 drain_of_one = refl
 
 pub drain_of_the_other : drain_check (two_stores ++ Drained (key 5 0 4) line 1 ∷ []) line 0xff00 1 (replicate 8 0 ++ 7 ∷ replicate 55 0) 5
     ≡ Ok tt
-<<<<<<< HEAD
-drain_of_the_other = refl
-
-pub drain_of_both : drain_check two_stores line 0xffff 2 two_sevens 4 ≡ Ok tt
-=======
 unfolding mask_over bytes_over
 drain_of_the_other = refl
 
 pub drain_of_both : drain_check two_stores line 0xffff 2 two_sevens 4 ≡ Ok tt
 unfolding mask_over bytes_over
->>>>>>> b5be2b008375bba75950a23cab9d0ab4c5b7bcff
 drain_of_both = refl
 
 pub drain_of_too_many : drain_check two_stores line 0xffff 3 two_sevens 4 ≡ Err (misfit DrainCount 2 3)
 drain_of_too_many = refl
 
 pub drain_of_too_little : drain_check two_stores line 0xff 2 one_seven 4 ≡ Err (misfit DrainData 0xffff 0xff)
-<<<<<<< HEAD
-=======
 unfolding mask_over bytes_over
->>>>>>> b5be2b008375bba75950a23cab9d0ab4c5b7bcff
 drain_of_too_little = refl
 
 -- a store behind a fence of writes drains no earlier than one before it, to another line
@@ -72,10 +60,7 @@ pub drain_over_a_fence : drain_check fenced 0x8000_0140 0xff 1 one_seven 5 ≡ E
 drain_over_a_fence = refl
 
 pub drain_in_the_order_of_a_fence : drain_check (fenced ++ Drained (key 6 0 5) line 1 ∷ []) 0x8000_0140 0xff 1 one_seven 6 ≡ Ok tt
-<<<<<<< HEAD
-=======
 unfolding mask_over bytes_over
->>>>>>> b5be2b008375bba75950a23cab9d0ab4c5b7bcff
 drain_in_the_order_of_a_fence = refl
 
 -- A store that drains in cycle 10 is forwarded in cycle 9 and no more in cycle 10. Without the drain it

@@ -1,25 +1,13 @@
-<<<<<<< HEAD
-use Rattle.std.proofs.Common.{ℕ, ◌≡◌, ◌+◌, ◌%◌, ◌≤◌, true, false, nat_lt, Option, Some, None, List, length, filter, map, take, sym, ap, ◌∙◌, inl, inr, arith}
-use Rattle.std.specs.Int.{bit_at}
-use Rattle.std.specs.List.{range_with_len}
-use Rattle.std.specs.Option.{option_map_or}
-use Rattle.std.specs.Simd.Lanes.{mask_l}
-=======
 use Rattle.std.proofs.Common.{ℕ, ◌≡◌, ◌+◌, ◌%◌, ◌≤◌, true, false, nat_lt, Option, Some, None, List, length, filter, take, sym, ap, ◌∙◌, inl, inr, arith}
 use Rattle.std.specs.Int.{bit_at}
 use Rattle.std.specs.Option.{option_map_or}
->>>>>>> b5be2b008375bba75950a23cab9d0ab4c5b7bcff
 use Rattle.std.proofs.lemmas.Bool.{and_parts, cases_lt, lt-ltb, le-ltb, eqb-true}
 use Rattle.dt_sources.proofs.Untaken.{covering_line}
 use Rattle.dt_lists.proofs.Lists.{slice_get-take}
 use Rattle.dt_record.specs.Memory.{line_of}
 use Rattle.dt_record.specs.Actions.{Held, held_of, is_waiting, is_on, store_covers}
 use Rattle.dt_stores.specs.declared.answers.DrainAnswer.TheVariants as answer
-<<<<<<< HEAD
-use Rattle.dt_stores.specs.Draining.{is_waiting_on, is_covered, took, answer_among}
-=======
 use Rattle.dt_stores.specs.Draining.{is_waiting_on, is_covered, mask_over, took, answer_among}
->>>>>>> b5be2b008375bba75950a23cab9d0ab4c5b7bcff
 use Rattle.dt_stores.proofs.Merging.{bit_of, covered_bit}
 use Rattle.dt_judged.specs.Covering.{taken_by, DrainsCoverStores}
 use Rattle.dt_judged.proofs.Elements.{any_passes, passes_there}
@@ -29,17 +17,10 @@ use Rattle.dt_judged.proofs.Elements.{any_passes, passes_there}
 -- a drain that is allowed finds enough stores, and has their mask
 pub record IsTaken (held : List Held) (line count mask : ℕ) : Type 0 where
   pub enough : count ≤ length (filter (is_waiting_on line) held)
-<<<<<<< HEAD
-  pub mask_is : mask_l (map (is_covered (take count (filter (is_waiting_on line) held))) (range_with_len line 64)) ≡ mask
-
-unbarred : (o : Option Held) (line : ℕ) (taken : List Held) (mask : ℕ) (bytes : List ℕ)
-    → option_map_or (λ h. answer.Barred h.store.seq) o (took line taken) ≡ answer.Took mask bytes → mask_l (map (is_covered taken) (range_with_len line 64)) ≡ mask
-=======
   pub mask_is : mask_over line (take count (filter (is_waiting_on line) held)) ≡ mask
 
 unbarred : (o : Option Held) (line : ℕ) (taken : List Held) (mask : ℕ) (bytes : List ℕ)
     → option_map_or (λ h. answer.Barred h.store.seq) o (took line taken) ≡ answer.Took mask bytes → mask_over line taken ≡ mask
->>>>>>> b5be2b008375bba75950a23cab9d0ab4c5b7bcff
 unbarred None line taken mask bytes is = cc is
 unbarred (Some h) line taken mask bytes is = absurd (cc is)
 

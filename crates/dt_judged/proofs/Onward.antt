@@ -1,16 +1,8 @@
-<<<<<<< HEAD
-use Rattle.std.proofs.Common.{ℕ, ◌≡◌, ◌%◌, ◌==◌, true, false, if◌then◌else◌, nat_lt, not, Some, None, List, [], ◌∷◌, ◌++◌, length, filter, take, zero, suc, refl, sym, ap, ◌∙◌, subst, inl, inr, IsTrue, arith}
-=======
 use Rattle.std.proofs.Common.{ℕ, ◌≡◌, ◌%◌, ◌==◌, true, if◌then◌else◌, nat_lt, not, Some, None, List, [], ◌∷◌, ◌++◌, length, filter, take, zero, suc, refl, sym, ap, ◌∙◌, subst, inl, inr, IsTrue}
->>>>>>> b5be2b008375bba75950a23cab9d0ab4c5b7bcff
 use Rattle.std.specs.Prelude.{Contains}
 use Rattle.std.specs.Int.{bit_at}
 use Rattle.std.specs.List.{list_all, slice_get}
 use Rattle.std.proofs.lemmas.Bool.{cases_Bool, and_parts, and_from, eq-eqb, ltb-true, ne_eqb}
-<<<<<<< HEAD
-use Rattle.std.proofs.lemmas.Bool.Decides.{nat_tests}
-=======
->>>>>>> b5be2b008375bba75950a23cab9d0ab4c5b7bcff
 use Rattle.std.proofs.lemmas.List.{append-nil}
 use Rattle.std.proofs.lemmas.List.Folds.{list_all-append}
 use Rattle.dt_record.proofs.KeyChains.{below-not_above}
