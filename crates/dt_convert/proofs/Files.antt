@@ -1,6 +1,6 @@
 -- Converted answers are a probe file.
-use Rattle.std.proofs.Common.{◌≡◌, ◌∙◌, ◌+◌, ◌≤◌, ℕ, Bool, true, false, cond, List, [], ◌∷◌, ◌++◌, Some, length, map, filter, refl, sym, ap, subst, append_assoc, arith}
-use Rattle.dt_record.proofs.CountedWrites.{length-cond, length-writing}
+use Rattle.std.proofs.Common.{◌≡◌, ◌∙◌, ◌+◌, ◌≤◌, ℕ, Bool, List, [], ◌∷◌, ◌++◌, Some, length, map, filter, refl, sym, ap, subst, append_assoc, arith}
+use Rattle.dt_record.proofs.CountedWrites.{length-writing}
 use Rattle.dt_record.specs.declared.records.Record.{Record}
 use Rattle.dt_record.specs.declared.streams.Next.{Next}
 use Rattle.dt_record.specs.declared.streams.Next.TheVariants.{Header, Event, End, Malformed, Limit, ReadFault, OutOfMemory}
