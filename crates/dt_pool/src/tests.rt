@@ -1,5 +1,7 @@
 //! The check of one file by any number of workers, streams that are refused, and a gate that shows that
 //! the threads of a check overlap: no clause says so.
+ghost use Rattle.std.specs.Prelude.{◌≤◌};
+
 use crate::check;
 use dt_pass::pass;
 use dt_probe_file::FileProbes;
@@ -40,9 +42,9 @@ fn beats(alloc: Global, count: u64) -> Result<Vec<Record>, AllocError> {
     Ok(records)
 }
 
-fn stream(alloc: Global, records: &[Record]) -> Result<FileProbes<MemSource>, AllocError> {
-    let source = MemSource::new(file(alloc, records)?, 4096, Vec::new(alloc));
-    FileProbes::new(alloc, source)
+/// A source of the file with these records.
+fn source(alloc: Global, records: &[Record]) -> Result<MemSource, AllocError> {
+    Ok(MemSource::new(file(alloc, records)?, 4096, Vec::new(alloc)))
 }
 
 /// addi x1,x0,5 at the first place of the memory, with this value.
@@ -81,10 +83,10 @@ fn any_number_of_workers_answers_the_same(rt: HostRuntime) -> Result<(), Fail> {
     let alloc = rt.alloc();
     let image = image(alloc)?;
     let records = vec![in alloc; five(1, 0, 5), five(2, 1, 6), five(3, 0, 7)]?;
-    let mut probes = stream(alloc, &records)?;
+    let mut probes = FileProbes::new(alloc, source(alloc, &records)?)?;
     let one = pass(alloc, &image, &mut probes);
     for workers in [1, 2, 8] {
-        let mut probes = stream(alloc, &records)?;
+        let mut probes = FileProbes::new(alloc, source(alloc, &records)?)?;
         let answer = check(&rt, alloc, &image, &mut probes, workers, &FreeGate);
         assert!(rt; is_same(&one, &answer));
     }
@@ -277,7 +279,7 @@ fn is_set(flag: &AtomicU64) -> bool {
 #[test]
 fn threads_judge_while_others_feed_and_take(rt: HostRuntime) -> Result<(), Fail> {
     let records = beats(rt.alloc(), 1000)?;
-    let mut probes = stream(rt.alloc(), &records)?;
+    let mut probes = FileProbes::new(rt.alloc(), source(rt.alloc(), &records)?)?;
     let image = Image::of(Vec::new(rt.alloc()));
     let gate = Hold {
         fed: AtomicU64::new(0),
