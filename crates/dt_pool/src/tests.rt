@@ -78,33 +78,64 @@ fn is_same(one: &Result<Checked, Refusal>, other: &Result<Checked, Refusal>) -> 
     }
 }
 
+/// What so many workers answer of the file with these records.
+fn answer_of<R: Threads + Wait + Sync>(
+    rt: &R,
+    alloc: Global,
+    records: &[Record],
+    workers: u8,
+) -> Result<Result<Checked, Refusal>, AllocError>
+    requires some { 1 ≤ workers }
+    requires few { workers ≤ 8 }
+{
+    let image = image(alloc)?;
+    let mut probes = FileProbes::new(alloc, source(alloc, records)?)?;
+    Ok(check(rt, alloc, &image, &mut probes, workers, &FreeGate))
+}
+
+/// What one thread answers of it.
+fn plain_answer(alloc: Global, records: &[Record]) -> Result<Result<Checked, Refusal>, AllocError> {
+    let image = image(alloc)?;
+    let mut probes = FileProbes::new(alloc, source(alloc, records)?)?;
+    Ok(pass(alloc, &image, &mut probes))
+}
+
 #[test]
 fn any_number_of_workers_answers_the_same(rt: HostRuntime) -> Result<(), Fail> {
     let alloc = rt.alloc();
-    let image = image(alloc)?;
     let records = vec![in alloc; five(1, 0, 5), five(2, 1, 6), five(3, 0, 7)]?;
-    let mut probes = FileProbes::new(alloc, source(alloc, &records)?)?;
-    let one = pass(alloc, &image, &mut probes);
+    let one = plain_answer(alloc, &records)?;
     for workers in [1, 2, 8] {
-        let mut probes = FileProbes::new(alloc, source(alloc, &records)?)?;
-        let answer = check(&rt, alloc, &image, &mut probes, workers, &FreeGate);
+        let answer = answer_of(&rt, alloc, &records, workers)?;
         assert!(rt; is_same(&one, &answer));
     }
+    Ok(())
+}
+
+/// The failure of a file that is not refused.
+fn failure_of(answer: &Result<Checked, Refusal>) -> Option<(Key, Reason)> {
+    match answer {
+        Ok(
+            Checked {
+                verdict: Verdict::Fail(failure),
+                ..
+            },
+        ) => Some((failure.key, failure.reason)),
+        _ => None,
+    }
+}
+
+#[test]
+fn workers_find_the_first_failure(rt: HostRuntime) -> Result<(), Fail> {
+    let alloc = rt.alloc();
+    let records = vec![in alloc; five(1, 0, 5), five(2, 1, 6), five(3, 0, 7)]?;
     let failing = Key {
         stamp: 2,
         hart: 1,
         seq: 0,
     };
-    let Ok(
-        Checked {
-            verdict: Verdict::Fail(failure),
-            ..
-        },
-    ) = one
-    else {
-        panic!(rt; "no failure");
-    };
-    assert_eq!(rt; (failure.key, failure.reason), (failing, Reason::Value));
+    let answer = answer_of(&rt, alloc, &records, 2)?;
+    assert_eq!(rt; failure_of(&answer), Some((failing, Reason::Value)));
     Ok(())
 }
 
