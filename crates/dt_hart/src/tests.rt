@@ -1,12 +1,8 @@
-ghost use Rattle.std.specs.Prelude.{◌≡◌, IsTrue, OnOk};
-ghost use Rattle.std.specs.List.{list_all};
-ghost use Rattle.dt_record.specs.Lawful.{is_lawful};
+ghost use Rattle.std.specs.Prelude.{OnOk};
 ghost use Rattle.dt_hart.specs.Marks.{KeepsMarks};
 
 use crate::{Hart, is_placed, known_at_next, marks_go_on};
-use dt_record::{
-    Body, Key, KnownByte, Origin, PageMark, RECORD_LIMIT, Record, Retire, Sources, lawful,
-};
+use dt_record::{Body, Key, Origin, RECORD_LIMIT, Record, Retire, Sources, lawful};
 use dt_reference::can_follow;
 use std::process::Abort;
 use std::test::Fail;
@@ -245,96 +241,14 @@ fn a_fence_counts_again_after_an_undo(rt: HostRuntime) -> Result<(), Fail> {
     Ok(())
 }
 
-/// A record of hart 1.
-fn own(stamp: u64, body: Body) -> Record
-    ensures hart { result.hart ≡ 1 }
-    ensures stamp { result.stamp ≡ stamp }
-{
-    Record {
-        stamp,
-        hart: 1,
-        body,
-    }
-}
-
-fn are_lawful(events: &[Record]) -> bool
-    ensures { IsTrue result → IsTrue (list_all is_lawful events.now) }
-{
-    events.iter().all(|event| lawful(event))
-}
-
-/// Fences of page 0, of all pages, of page 0 and page 1, a load and a write of the line.
+/// A hart of which no record came yet, its data, and the hart of these.
 #[test]
-fn data_of_a_hart(rt: HostRuntime) -> Result<(), Fail> {
-    let mut hart = Hart::new(rt.alloc(), 1, true);
-    let read = key(1, 0, 5);
-    for (stamp, body, sources) in [
-        (3, commit(0x8000_0000, 0x0000_0297, 0x8000_0000), NONE),
-        (4, commit(0x8000_0004, 0x1202_8073, 0), NONE),
-        (5, commit(0x8000_0008, 0x1200_0073, 0), NONE),
-        (6, commit(0x8000_000c, 0x1202_8073, 0), NONE),
-        (7, load(0x8000_0010, 7), everywhere(Origin::Write(read))),
-        (8, commit(0x8000_0014, 0x0330_000f, 0), NONE),
-    ] {
-        take(&rt, &mut hart, stamp, body, sources)?;
-    }
+fn data_of_a_new_hart(rt: HostRuntime) -> Result<(), Fail> {
+    let hart = Hart::new(rt.alloc(), 1, true);
     let d = hart.state(rt.alloc())?;
-    assert_eq!(rt; (d.seq, d.pc, d.mode, d.order), (6, 0x8000_0018, 3, 7));
-    assert_eq!(rt; (d.x[4], d.x[7], d.v[0]), (0x8000_0000, 7, 0xa_0000_0000));
-    assert_eq!(rt; d.all_pages, 3);
-    let page = PageMark {
-        page: 0x8_0000,
-        seq: 4,
-    };
-    assert_eq!(rt; d.pages.items(), [page].as_slice());
-    assert_eq!(rt; d.known.items().len(), 8);
-    assert_eq!(rt;
-        d.known.items()[7],
-        KnownByte {
-            addr: LINE + 7,
-            key: read
-        }
-    );
-    Ok(())
-}
-
-/// A store that is drained, a FENCE.I, two fences of pages and an LR.
-#[test]
-fn a_hart_of_its_data(rt: HostRuntime) -> Result<(), Fail> {
-    let mut hart = Hart::new(rt.alloc(), 1, true);
-    let store = Body::Store {
-        pc: 0x8000_0000,
-        bits: 0x1072_b023,
-        paddr: LINE,
-        value: 7,
-    };
-    let events = [
-        own(3, store),
-        own(4, drain()),
-        own(4, commit(0x8000_0004, 0x0000_100f, 0)),
-        own(5, commit(0x8000_0008, 0x1200_0073, 0)),
-        own(6, commit(0x8000_000c, 0x1202_8073, 0)),
-        own(7, atomic(0x1405_35af, 7, false, 0)),
-    ];
-    for event in &events {
-        take(
-            &rt,
-            &mut hart,
-            event.stamp,
-            event.body,
-            everywhere(Origin::Image),
-        )?;
-    }
-    let d = hart.state(rt.alloc())?;
-    assert!(rt; d.seq == 6 && are_lawful(&events));
-    assert!(rt; hart.arch().csrs.wide && hart.seq() <= RECORD_LIMIT);
-    let again = Hart::of_state(rt.alloc(), 1, true, &d, &events)?;
-    assert!(rt; again.state(rt.alloc())?.is_same(&d));
-    assert_eq!(rt; (again.seq(), again.stamp(), again.number()), (6, 7, 1));
-    assert_eq!(rt; again.reserved(), Some((LINE, key(7, 1, 5))));
-    assert_eq!(rt; again.windows().instructions(), Some(key(4, 1, 2)));
-    assert_eq!(rt; again.windows().page(8), Some(key(6, 1, 4)));
-    assert_eq!(rt; again.stores().forward(LINE, 3).is_some(), true);
-    assert_eq!(rt; again.stores().forward(LINE, 4).is_some(), false);
+    assert_eq!(rt; (d.pc, d.mode, d.known.items().len()), (0x8000_0000, 3, 0));
+    assert!(rt; d.seq == 0 && hart.arch().csrs.wide && hart.seq() <= RECORD_LIMIT);
+    let again = Hart::of_state(rt.alloc(), 1, true, &d, &[])?;
+    assert_eq!(rt; (again.seq(), again.number()), (0, 1));
     Ok(())
 }
