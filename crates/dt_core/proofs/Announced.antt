@@ -205,15 +205,15 @@ announced-split : (hart : ℕ) (before after : List Note) (note : Note)
 announced-split hart before after note =
     ap (hart_writes hart) (filter_map-append write_in before (note ∷ after)) ∙ filter-append (λ (w : Write). w.key.hart == hart) (announced before) (announced (note ∷ after))
 
-pub record IsFront (hart : ℕ) (records taken : List Record) (history front : List Note) : Type 0 where
+pub record IsHistoryFront (hart : ℕ) (records taken : List Record) (history front : List Note) : Type 0 where
   pub told : IsAnnounced hart records taken history
   pub first : IsPrefix taken records
   pub begins : IsPrefix front history
 
 -- the writes that a front holds are the first of the hart's
-IsFront-writes : (hart : ℕ) (records taken : List Record) (history front : List Note) → IsFront hart records taken history front
+IsHistoryFront-writes : (hart : ℕ) (records taken : List Record) (history front : List Note) → IsHistoryFront hart records taken history front
     → IsPrefix (hart_writes hart (announced front)) (writes_by records)
-IsFront-writes hart records taken history front is =
+IsHistoryFront-writes hart records taken history front is =
     let later = is.begins.0 in
     let most = writes_after-front (λ (h : ℕ). 0) taken is.first.0 in
     let held = hart_writes hart (announced front) in
@@ -228,9 +228,9 @@ IsFront-writes hart records taken history front is =
           ∙ most.1 ∙ ap writes_by is.first.1,
     )
 
-pub IsFront-ended : (hart : ℕ) (records taken : List Record) (history front : List Note) → IsFront hart records taken history front
+pub IsHistoryFront-ended : (hart : ℕ) (records taken : List Record) (history front : List Note) → IsHistoryFront hart records taken history front
     → has_ended hart front ≡ true → hart_writes hart (announced front) ≡ writes_by records
-IsFront-ended hart records taken history front is ended =
+IsHistoryFront-ended hart records taken history front is ended =
     let place = StandsAt-end hart front ended in
     let split : history ≡ place.before ++ End hart ∷ (place.after ++ is.begins.0) =
     sym is.begins.1 ∙ ap (λ xs. xs ++ is.begins.0) place.split ∙ append_assoc place.before (End hart ∷ place.after) is.begins.0 in
@@ -238,7 +238,7 @@ IsFront-ended hart records taken history front is ended =
     let more = hart_writes hart (announced (End hart ∷ place.after)) in
     let held : hart_writes hart (announced front) ≡ writes_by records ++ more =
     ap (λ h. hart_writes hart (announced h)) place.split ∙ announced-split hart place.before place.after (End hart) ∙ ap (λ ws. ws ++ more) all in
-    let most = IsFront-writes hart records taken history front is in
+    let most = IsHistoryFront-writes hart records taken history front is in
     let none = nothing_more (writes_by records) more most.0 (ap (λ ws. ws ++ most.0) (sym held) ∙ most.1) in
     held ∙ ap (λ ws. writes_by records ++ ws) none ∙ append-nil (writes_by records)
 
@@ -249,9 +249,9 @@ below_less : (low high : ℕ) (ws : List Write) → low ≤ high → writes_belo
 below_less low high ws under = filter-narrow (λ (w : Write). nat_lt w.key.stamp low) (λ (w : Write). nat_lt w.key.stamp high) ws
     (λ w less. lt-ltb w.key.stamp high (omega (arith, ltb-true w.key.stamp low less)))
 
-IsFront-marked : (hart stamp : ℕ) (records taken : List Record) (history front : List Note) → IsFront hart records taken history front
+IsHistoryFront-marked : (hart stamp : ℕ) (records taken : List Record) (history front : List Note) → IsHistoryFront hart records taken history front
     → StandsAt (Mark hart stamp) front → writes_below stamp (hart_writes hart (announced front)) ≡ writes_below stamp (writes_by records)
-IsFront-marked hart stamp records taken history front is place =
+IsHistoryFront-marked hart stamp records taken history front is place =
     let note = Mark hart stamp in
     let split : history ≡ place.before ++ note ∷ (place.after ++ is.begins.0) =
     sym is.begins.1 ∙ ap (λ xs. xs ++ is.begins.0) place.split ∙ append_assoc place.before (note ∷ place.after) is.begins.0 in
@@ -260,7 +260,7 @@ IsFront-marked hart stamp records taken history front is place =
     let more = hart_writes hart (announced (note ∷ place.after)) in
     let held : hart_writes hart (announced front) ≡ early ++ more =
     ap (λ h. hart_writes hart (announced h)) place.split ∙ announced-split hart place.before place.after note in
-    let most = IsFront-writes hart records taken history front is in
+    let most = IsHistoryFront-writes hart records taken history front is in
     let under : Write → Bool = λ w. nat_lt w.key.stamp stamp in
     let whole : writes_by records ≡ (early ++ more) ++ most.0 = sym most.1 ∙ ap (λ ws. ws ++ most.0) held in
     let parts : writes_below stamp (writes_by records) ≡ (writes_below stamp early ++ writes_below stamp more) ++ writes_below stamp most.0 =
@@ -269,11 +269,11 @@ IsFront-marked hart stamp records taken history front is place =
     ap (writes_below stamp) held ∙ filter-append under early more ∙ ap (λ ws. writes_below stamp early ++ ws) none ∙ append-nil (writes_below stamp early) ∙ all
 
 -- below a stamp that the hart has reached, a front holds all of the hart's writes
-pub IsFront-below : (hart stamp : ℕ) (records taken : List Record) (history front : List Note) → IsFront hart records taken history front
+pub IsHistoryFront-below : (hart stamp : ℕ) (records taken : List Record) (history front : List Note) → IsHistoryFront hart records taken history front
     → (has_ended hart front ≡ true) ⊎ (stamp ≤ mark_of hart front)
     → writes_below stamp (hart_writes hart (announced front)) ≡ writes_below stamp (writes_by records)
-IsFront-below hart stamp records taken history front is (inl ended) = ap (writes_below stamp) (IsFront-ended hart records taken history front is ended)
-IsFront-below hart stamp records taken history front is (inr reached) = elim (HasMark-all hart front) [
+IsHistoryFront-below hart stamp records taken history front is (inl ended) = ap (writes_below stamp) (IsHistoryFront-ended hart records taken history front is ended)
+IsHistoryFront-below hart stamp records taken history front is (inr reached) = elim (HasMark-all hart front) [
   | inl none ↦
       let zero_mark : mark_of hart front ≡ 0 = ap (λ (ms : List ℕ). slice_index ms (length ms - 1)) none in
       let low : stamp ≡ 0 = omega arith in
@@ -282,23 +282,23 @@ IsFront-below hart stamp records taken history front is (inr reached) = elim (Ha
   | inr place ↦
       let mark = mark_of hart front in
       sym (below_less stamp mark (hart_writes hart (announced front)) reached)
-      ∙ ap (writes_below stamp) (IsFront-marked hart mark records taken history front is place)
+      ∙ ap (writes_below stamp) (IsHistoryFront-marked hart mark records taken history front is place)
       ∙ below_less stamp mark (writes_by records) reached
 ]
 
 -- and below the next cycle, where the hart has passed this one
-pub IsFront-passed : (hart stamp : ℕ) (records taken : List Record) (history front : List Note) → IsFront hart records taken history front
+pub IsHistoryFront-passed : (hart stamp : ℕ) (records taken : List Record) (history front : List Note) → IsHistoryFront hart records taken history front
     → (has_ended hart front ≡ true) ⊎ HasMarkAbove hart front stamp
     → writes_below (stamp + 1) (hart_writes hart (announced front)) ≡ writes_below (stamp + 1) (writes_by records)
-IsFront-passed hart stamp records taken history front is (inl ended) = ap (writes_below (stamp + 1)) (IsFront-ended hart records taken history front is ended)
-IsFront-passed hart stamp records taken history front is (inr (mark, held, above)) =
+IsHistoryFront-passed hart stamp records taken history front is (inl ended) = ap (writes_below (stamp + 1)) (IsHistoryFront-ended hart records taken history front is ended)
+IsHistoryFront-passed hart stamp records taken history front is (inr (mark, held, above)) =
     sym (below_less (stamp + 1) mark (hart_writes hart (announced front)) (omega arith))
-    ∙ ap (writes_below (stamp + 1)) (IsFront-marked hart mark records taken history front is (StandsAt-mark hart mark front held))
+    ∙ ap (writes_below (stamp + 1)) (IsHistoryFront-marked hart mark records taken history front is (StandsAt-mark hart mark front held))
     ∙ below_less (stamp + 1) mark (writes_by records) (omega arith)
 
 -- of a hart without records a front holds nothing
-pub IsFront-empty : (hart : ℕ) (records taken : List Record) (history front : List Note) → IsFront hart records taken history front
+pub IsHistoryFront-empty : (hart : ℕ) (records taken : List Record) (history front : List Note) → IsHistoryFront hart records taken history front
     → records ≡ [] → hart_writes hart (announced front) ≡ []
-IsFront-empty hart records taken history front is none =
-    let most = IsFront-writes hart records taken history front is in
+IsHistoryFront-empty hart records taken history front is none =
+    let most = IsHistoryFront-writes hart records taken history front is in
     first_empty (hart_writes hart (announced front)) most.0 (most.1 ∙ ap writes_by none)

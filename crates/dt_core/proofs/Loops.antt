@@ -15,7 +15,7 @@ use Rattle.dt_record.specs.Marks.{stamp_in, marks_of, mark_of}
 use Rattle.dt_core.specs.Marks.{mark_with}
 use Rattle.dt_core.specs.declared.entries.Entry.{Entry}
 use Rattle.dt_core.specs.Machine.{HartState, take_first, take_of, is_mine, news_by, told}
-use Rattle.dt_core.specs.Notes.{notes_in, entries_of}
+use Rattle.dt_core.specs.Notes.{notes_appended, entries_by}
 use Rattle.dt_core.specs.Own.{AreOfHart}
 use Rattle.dt_core.specs.Sound.{writes_by}
 use Rattle.dt_core.proofs.Insertion.{insert-first}
@@ -111,7 +111,7 @@ drop-at (y ∷ ys) (suc i) x found = drop-at ys i x found
 -- one hart less is left to be told of
 pub told-next : {J : Type 0} (workers worker : ℕ) (is_ended : Bool) (harts : List (HartState J)) (i : ℕ) (s : HartState J) (all next total : List Entry)
     → slice_get harts i ≡ Some s
-    → next ≡ (if is_mine workers worker i then all ++ entries_of worker (news_by is_ended i s (notes_in all)) else all)
+    → next ≡ (if is_mine workers worker i then all ++ entries_by worker (news_by is_ended i s (notes_appended all)) else all)
     → told workers worker is_ended i (drop i harts) all ≡ total → told workers worker is_ended (i + 1) (drop (i + 1) harts) next ≡ total
 told-next workers worker is_ended harts i s all next total found is was =
     let more : i + 1 ≡ suc i = omega arith in

@@ -16,7 +16,7 @@ use Rattle.dt_core.specs.declared.steps.CoreStep.TheVariants.{Feed, Take, Announ
 use Rattle.dt_core.specs.Judgements.{Meaning, ReadsNoLaterWrites, AreAnswered}
 use Rattle.dt_core.specs.Machine.{HartState, CoreState, with_hart, feed_next, told, is_true, seen_notes, usable, next_record, judged, judge_next, judge_of, step_state, run_steps, opening_state}
 use Rattle.dt_record.specs.Marks.{can_judge}
-use Rattle.dt_core.specs.Notes.{entries_of}
+use Rattle.dt_core.specs.Notes.{entries_by}
 use Rattle.dt_core.specs.Own.{IsSafe}
 use Rattle.dt_core.specs.Runs.{taken_in, queue_in, HoldsAfter, IsReached}
 use Rattle.dt_core.proofs.Places.{all_front}
@@ -48,7 +48,7 @@ step-seen m c Feed = feed-seen c (slice_get c.file c.fed)
 step-seen m c (Take hart) = refl
 step-seen m c (Announce worker extra) =
     choice-seen (nat_lt worker (length c.seen) && list_all (is_true c worker) extra)
-    (record c { history = told (length c.seen) worker c.is_ended 0 c.harts c.history ++ entries_of worker extra }) c refl
+    (record c { history = told (length c.seen) worker c.is_ended 0 c.harts c.history ++ entries_by worker extra }) c refl
 step-seen m c (Look worker) = length-set c.seen worker (length c.history)
 step-seen m c (Judge hart) = judge_of-seen m c hart (slice_get c.harts hart)
 

@@ -21,7 +21,7 @@ use Rattle.dt_core.specs.declared.steps.CoreStep.TheVariants.{Feed, Take, Announ
 use Rattle.dt_core.specs.Judgements.{Meaning, ReadsNoLaterWrites, AreAnswered, failure_by}
 use Rattle.dt_core.specs.Machine.{HartState, CoreState, with_hart, queued, feed_next, take_first, take_of, is_mine, news_by, told, has_failed, is_key, last_judged, ends_with, is_true, announce_of, seen_notes, usable, next_record, judged, judge_next, judge_of, step_state, run_steps, new_hart, new_harts, opening_state}
 use Rattle.dt_record.specs.Marks.{CanJudge, can_judge}
-use Rattle.dt_core.specs.Notes.{notes_in, entries_of}
+use Rattle.dt_core.specs.Notes.{notes_appended, entries_by}
 use Rattle.dt_core.specs.Runs.{taken_in, queue_in, lists_of, HoldsAfter, EveryRunHolds}
 use Rattle.dt_core.specs.Sound.{IsSound, writes_by}
 use Rattle.dt_core.proofs.Announced.{writes_after-front}
@@ -46,7 +46,7 @@ pub record IsKept {J : Type 0} (m : Meaning J) (harts : ℕ) (file : List Record
   pub few : c.fed ≤ length file
   pub ended : IsTrue c.is_ended → c.fed ≡ length file
   pub kept : (hart : ℕ) → taken_in (slice_get c.harts hart) ++ queue_in (slice_get c.harts hart) ≡ records_of hart (take c.fed file)
-  pub told : IsTold file (λ hart. taken_in (slice_get c.harts hart)) (Fails m file) (notes_in c.history)
+  pub told : IsTold file (λ hart. taken_in (slice_get c.harts hart)) (Fails m file) (notes_appended c.history)
   pub judged : (hart : ℕ) (s : HartState J) → slice_get c.harts hart ≡ Some s → AreAnswered m (writes_of file) (m.opening hart) s.taken s.outcomes s.state
 
 -- what is kept of one hart
@@ -131,7 +131,7 @@ IsKept-change m harts file c hart fed s t kept change = record {
     | inl here ↦ ap (λ o. taken_in o ++ queue_in o) here.1 ∙ change.kept ∙ ap (λ k. records_of k (take fed file)) (sym here.0)
     | inr other ↦ ap (λ o. taken_in o ++ queue_in o) other.1 ∙ kept.kept h ∙ sym (change.others h other.0)
   ];
-  told = IsTold-taken file (λ h. taken_in (slice_get c.harts h)) (λ h. taken_in (slice_get (slice_set c.harts hart t) h)) (Fails m file) (notes_in c.history)
+  told = IsTold-taken file (λ h. taken_in (slice_get c.harts h)) (λ h. taken_in (slice_get (slice_set c.harts hart t) h)) (Fails m file) (notes_appended c.history)
       (λ h. elim (at_hart c hart h s t change.found) [
         | inl here ↦
             let was : slice_get c.harts h ≡ Some s = ap (slice_get c.harts) here.0 ∙ change.found in
@@ -269,33 +269,33 @@ step_take m harts file c hart (Some s) kept is = step_first m harts file c hart 
 
 -- Announce
 
-notes_in-entries : (worker : ℕ) (notes : List Note) → notes_in (entries_of worker notes) ≡ notes
-notes_in-entries worker [] = refl
-notes_in-entries worker (n ∷ ns) = ap (λ ms. n ∷ ms) (notes_in-entries worker ns)
+notes_appended-entries : (worker : ℕ) (notes : List Note) → notes_appended (entries_by worker notes) ≡ notes
+notes_appended-entries worker [] = refl
+notes_appended-entries worker (n ∷ ns) = ap (λ ms. n ∷ ms) (notes_appended-entries worker ns)
 
-notes_in-more : (worker : ℕ) (history : List Entry) (notes : List Note) → notes_in (history ++ entries_of worker notes) ≡ notes_in history ++ notes
-notes_in-more worker history notes =
-    map-append (λ (e : Entry). e.note) history (entries_of worker notes) ∙ ap (λ ns. notes_in history ++ ns) (notes_in-entries worker notes)
+notes_appended-more : (worker : ℕ) (history : List Entry) (notes : List Note) → notes_appended (history ++ entries_by worker notes) ≡ notes_appended history ++ notes
+notes_appended-more worker history notes =
+    map-append (λ (e : Entry). e.note) history (entries_by worker notes) ∙ ap (λ ns. notes_appended history ++ ns) (notes_appended-entries worker notes)
 
 told-kept : {J : Type 0} (m : Meaning J) (harts : ℕ) (file : List Record) (c : CoreState J) (workers worker hart : ℕ) (ss : List (HartState J)) (history : List Entry)
     → AreRecords harts no_stamps file → IsKept m harts file c → ((k : ℕ) → slice_get ss k ≡ slice_get c.harts (hart + k))
-    → IsTold file (λ h. taken_in (slice_get c.harts h)) (Fails m file) (notes_in history)
-    → IsTold file (λ h. taken_in (slice_get c.harts h)) (Fails m file) (notes_in (told workers worker c.is_ended hart ss history))
+    → IsTold file (λ h. taken_in (slice_get c.harts h)) (Fails m file) (notes_appended history)
+    → IsTold file (λ h. taken_in (slice_get c.harts h)) (Fails m file) (notes_appended (told workers worker c.is_ended hart ss history))
 told-kept m harts file c workers worker hart [] history each kept places was = was
 told-kept m harts file c workers worker hart (s ∷ ss) history each kept places was =
-    let news = news_by c.is_ended hart s (notes_in history) in
+    let news = news_by c.is_ended hart s (notes_appended history) in
     let here : slice_get c.harts hart ≡ Some s = ap (slice_get c.harts) (let at : hart ≡ hart + 0 = omega arith in at) ∙ sym (places 0) in
     let next : (k : ℕ) → slice_get ss k ≡ slice_get c.harts (suc hart + k) = λ k.
     places (suc k) ∙ ap (slice_get c.harts) (let at : hart + suc k ≡ suc hart + k = omega arith in at) in
-    let grown = subst (λ (ns : List Note). IsTold file (λ h. taken_in (slice_get c.harts h)) (Fails m file) ns) (sym (notes_in-more worker history news))
-    (IsTold-news harts file c.fed c.is_ended hart s.taken s.queue (λ h. taken_in (slice_get c.harts h)) (Fails m file) (notes_in history)
+    let grown = subst (λ (ns : List Note). IsTold file (λ h. taken_in (slice_get c.harts h)) (Fails m file) ns) (sym (notes_appended-more worker history news))
+    (IsTold-news harts file c.fed c.is_ended hart s.taken s.queue (λ h. taken_in (slice_get c.harts h)) (Fails m file) (notes_appended history)
     (known_of m harts file c hart s each kept here) (ap taken_in here) was) in
-    told-kept m harts file c workers worker (suc hart) ss (cond (is_mine workers worker hart) (history ++ entries_of worker news) history) each kept next
-    (choice (is_mine workers worker hart) (history ++ entries_of worker news) history grown was)
+    told-kept m harts file c workers worker (suc hart) ss (cond (is_mine workers worker hart) (history ++ entries_by worker news) history) each kept next
+    (choice (is_mine workers worker hart) (history ++ entries_by worker news) history grown was)
   where
-    choice : (b : Bool) (xs ys : List Entry) → IsTold file (λ h. taken_in (slice_get c.harts h)) (Fails m file) (notes_in xs)
-        → IsTold file (λ h. taken_in (slice_get c.harts h)) (Fails m file) (notes_in ys)
-        → IsTold file (λ h. taken_in (slice_get c.harts h)) (Fails m file) (notes_in (cond b xs ys))
+    choice : (b : Bool) (xs ys : List Entry) → IsTold file (λ h. taken_in (slice_get c.harts h)) (Fails m file) (notes_appended xs)
+        → IsTold file (λ h. taken_in (slice_get c.harts h)) (Fails m file) (notes_appended ys)
+        → IsTold file (λ h. taken_in (slice_get c.harts h)) (Fails m file) (notes_appended (cond b xs ys))
     choice true xs ys first second = first
     choice false xs ys first second = second
 
@@ -356,20 +356,20 @@ step_announce : {J : Type 0} (m : Meaning J) (harts : ℕ) (file : List Record) 
 step_announce m harts file c worker extra each kept = choice (nat_lt worker (length c.seen) && list_all (is_true c worker) extra) refl
   where
     choice : (b : Bool) → (nat_lt worker (length c.seen) && list_all (is_true c worker) extra) ≡ b
-        → IsKept m harts file (cond b (record c { history = told (length c.seen) worker c.is_ended 0 c.harts c.history ++ entries_of worker extra }) c)
+        → IsKept m harts file (cond b (record c { history = told (length c.seen) worker c.is_ended 0 c.harts c.history ++ entries_by worker extra }) c)
     choice false is = kept
     choice true is =
         let true_notes = (and_parts (nat_lt worker (length c.seen)) (list_all (is_true c worker) extra) is).1 in
         let history = told (length c.seen) worker c.is_ended 0 c.harts c.history in
         let news = told-kept m harts file c (length c.seen) worker 0 c.harts c.history each kept
         (λ k. ap (slice_get c.harts) (let at : k ≡ 0 + k = omega arith in at)) kept.told in
-        let all = tell_extra m harts file c worker (notes_in history) extra each kept true_notes news in record {
+        let all = tell_extra m harts file c worker (notes_appended history) extra each kept true_notes news in record {
           size = kept.size;
           same = kept.same;
           few = kept.few;
           ended = kept.ended;
           kept = kept.kept;
-          told = subst (λ (ns : List Note). IsTold file (λ h. taken_in (slice_get c.harts h)) (Fails m file) ns) (sym (notes_in-more worker history extra)) all;
+          told = subst (λ (ns : List Note). IsTold file (λ h. taken_in (slice_get c.harts h)) (Fails m file) ns) (sym (notes_appended-more worker history extra)) all;
           judged = kept.judged;
         }
 
@@ -392,8 +392,8 @@ step_judged m harts file c hart s r law each kept at next can =
     let used = usable (length c.harts) notes in
     let chance = CanJudge-test (length c.harts) notes r.stamp can in
     let seen = slice_index c.seen (hart % length c.seen) in
-    let begins : IsPrefix notes (notes_in c.history) =
-    (notes_in (drop seen c.history), sym (map-append (λ (e : Entry). e.note) (take seen c.history) (drop seen c.history)) ∙ ap notes_in (take-append-drop seen c.history)) in
+    let begins : IsPrefix notes (notes_appended c.history) =
+    (notes_appended (drop seen c.history), sym (map-append (λ (e : Entry). e.note) (take seen c.history) (drop seen c.history)) ∙ ap notes_appended (take-append-drop seen c.history)) in
     let in_file = subst (λ (n : ℕ). CanJudge n notes r.stamp) kept.size chance in
     let alike : writes_until r.stamp used ≡ writes_until r.stamp (writes_of file) =
     usable-until (length c.harts) notes r.stamp chance

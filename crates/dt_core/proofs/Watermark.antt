@@ -18,7 +18,7 @@ use Rattle.dt_core.specs.Sound.{Lists, IsSound, writes_by}
 use Rattle.dt_core.specs.Laws.{HoldsBelow, WritesBelowMarkAreAll, WritesUntilJudgedAreAll, WritesUntilPassedAreAll}
 use Rattle.dt_core.proofs.Insertion.{filter-by_key}
 use Rattle.dt_core.proofs.Sorting.{by_key-harts}
-use Rattle.dt_core.proofs.Announced.{hart_writes-after, IsFront, IsFront-below, IsFront-passed, IsFront-ended, IsFront-empty}
+use Rattle.dt_core.proofs.Announced.{hart_writes-after, IsHistoryFront, IsHistoryFront-below, IsHistoryFront-passed, IsHistoryFront-ended, IsHistoryFront-empty}
 
 -- The watermark law, from what a front of the history holds of each hart.
 
@@ -41,7 +41,7 @@ taken_first hart file l sound =
     )
 
 front_of : (hart : ℕ) (file : List Record) (l : Lists) (front : List Note) → IsSound file l → IsPrefix front l.history
-    → IsFront hart (records_of hart file) (l.taken hart) l.history front
+    → IsHistoryFront hart (records_of hart file) (l.taken hart) l.history front
 front_of hart file l front sound begins = record { told = sound.harts hart; first = taken_first hart file l sound; begins = begins }
 
 -- each hart of the file has ended or reached the stamp
@@ -56,12 +56,12 @@ HoldEach harts notes file stamp = (hart : ℕ) → hart < harts
 reached_each : (harts stamp : ℕ) (file : List Record) (l : Lists) (front : List Note)
     → IsSound file l → IsPrefix front l.history → HaveReached harts front stamp → HoldEach harts front file stamp
 reached_each harts stamp file l front sound begins reached hart below =
-    IsFront-below hart stamp (records_of hart file) (l.taken hart) l.history front (front_of hart file l front sound begins) (reached hart below)
+    IsHistoryFront-below hart stamp (records_of hart file) (l.taken hart) l.history front (front_of hart file l front sound begins) (reached hart below)
 
 passed_each : (harts stamp : ℕ) (file : List Record) (l : Lists) (front : List Note)
     → IsSound file l → IsPrefix front l.history → HasPassed harts front stamp → HoldEach harts front file (stamp + 1)
 passed_each harts stamp file l front sound begins passed hart below =
-    IsFront-passed hart stamp (records_of hart file) (l.taken hart) l.history front (front_of hart file l front sound begins) (passed hart below)
+    IsHistoryFront-passed hart stamp (records_of hart file) (l.taken hart) l.history front (front_of hart file l front sound begins) (passed hart below)
 
 hart_below : (harts hart stamp : ℕ) (file : List Record) (l : Lists) (front : List Note)
     → AreRecords harts no_stamps file → IsSound file l → IsPrefix front l.history → HoldEach harts front file stamp
@@ -76,7 +76,7 @@ hart_below harts hart stamp file l front each sound begins held_each =
       | inl one ↦ held_each hart one
       | inr past ↦
           let none = records_of-none harts hart no_stamps file each past in
-          ap (writes_below stamp) (IsFront-empty hart (records_of hart file) (l.taken hart) l.history front is none)
+          ap (writes_below stamp) (IsHistoryFront-empty hart (records_of hart file) (l.taken hart) l.history front is none)
           ∙ ap (λ rs. writes_below stamp (writes_by rs)) (sym none)
     ] in
     filter-filter own under (announced front) ∙ held ∙ ap (writes_below stamp) (sym whole) ∙ filter-filter under own (writes_after no_records file)
@@ -100,10 +100,10 @@ all_ended harts file l front each sound begins ended =
     let is = front_of hart file l front sound begins in
     let whole = hart_writes-after hart no_records no_records file refl in
     elim (cases_lt hart harts) [
-      | inl one ↦ IsFront-ended hart (records_of hart file) (l.taken hart) l.history front is (ended hart one) ∙ sym whole
+      | inl one ↦ IsHistoryFront-ended hart (records_of hart file) (l.taken hart) l.history front is (ended hart one) ∙ sym whole
       | inr past ↦
           let none = records_of-none harts hart no_stamps file each past in
-          IsFront-empty hart (records_of hart file) (l.taken hart) l.history front is none ∙ ap writes_by (sym none) ∙ sym whole
+          IsHistoryFront-empty hart (records_of hart file) (l.taken hart) l.history front is none ∙ ap writes_by (sym none) ∙ sym whole
     ])
 
 -- the least mark is one that all harts have reached

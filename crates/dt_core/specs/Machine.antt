@@ -14,7 +14,7 @@ use Rattle.dt_core.specs.declared.steps.CoreStep.{CoreStep}
 use Rattle.dt_core.specs.declared.steps.CoreStep.TheVariants.{Feed, Take, Announce, Look, Judge}
 use Rattle.dt_core.specs.Judgements.{Meaning}
 use Rattle.dt_record.specs.Marks.{least_mark, can_judge}
-use Rattle.dt_core.specs.Notes.{announced, hart_writes, writes_below, notes_in, entries_of}
+use Rattle.dt_core.specs.Notes.{announced, hart_writes, writes_below, notes_appended, entries_by}
 use Rattle.dt_core.specs.Sound.{writes_by}
 
 -- what is kept of one hart. Its judged records are the first taken ones, as many as there are
@@ -87,7 +87,7 @@ abbrev pub told : {J : Type 0} → ℕ → ℕ → Bool → ℕ → List (HartSt
 told workers worker is_ended hart [] history = history
 told workers worker is_ended hart (s ∷ ss) history =
     told workers worker is_ended (suc hart) ss
-    (if is_mine workers worker hart then history ++ entries_of worker (news_by is_ended hart s (notes_in history)) else history)
+    (if is_mine workers worker hart then history ++ entries_by worker (news_by is_ended hart s (notes_appended history)) else history)
 
 abbrev pub has_failed : List Bool → Bool
 has_failed outcomes = list_any not outcomes
@@ -122,14 +122,14 @@ is_true c worker _ = false
 abbrev pub announce_of : {J : Type 0} → CoreState J → ℕ → List Note → CoreState J
 announce_of c worker extra =
     if nat_lt worker (length c.seen) && list_all (is_true c worker) extra
-    then record c { history = told (length c.seen) worker c.is_ended 0 c.harts c.history ++ entries_of worker extra }
+    then record c { history = told (length c.seen) worker c.is_ended 0 c.harts c.history ++ entries_by worker extra }
     else c
 
 -- Judge: the next unjudged taken record, over the history that the hart's worker has seen
 
 -- the notes that the worker of a hart has seen
 abbrev pub seen_notes : {J : Type 0} → CoreState J → ℕ → List Note
-seen_notes c hart = notes_in (take (slice_index c.seen (hart % length c.seen)) c.history)
+seen_notes c hart = notes_appended (take (slice_index c.seen (hart % length c.seen)) c.history)
 
 -- the writes that may be used: those below the least mark, and all where all harts have ended
 abbrev pub usable_below : Option ℕ → List Write → List Write

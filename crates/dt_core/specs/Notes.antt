@@ -24,9 +24,9 @@ abbrev pub writes_below : ℕ → List Write → List Write
 writes_below stamp writes = filter (λ w. nat_lt w.key.stamp stamp) writes
 
 -- the notes of a history, whoever appended them
-abbrev pub notes_in : List Entry → List Note
-notes_in history = map (λ e. e.note) history
+abbrev pub notes_appended : List Entry → List Note
+notes_appended history = map (λ e. e.note) history
 
 -- these notes as entries of the worker with this number
-abbrev pub entries_of : ℕ → List Note → List Entry
-entries_of worker notes = map (λ note. record { worker = worker; note = note }) notes
+abbrev pub entries_by : ℕ → List Note → List Entry
+entries_by worker notes = map (λ note. record { worker = worker; note = note }) notes

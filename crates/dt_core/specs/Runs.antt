@@ -15,7 +15,7 @@ use Rattle.dt_core.specs.Judgements.{Meaning, AreAnswered, failure_by}
 use Rattle.dt_core.specs.Laws.{HoldsBelow}
 use Rattle.dt_core.specs.Machine.{HartState, CoreState, run_steps, opening_state}
 use Rattle.dt_record.specs.Marks.{least_mark}
-use Rattle.dt_core.specs.Notes.{notes_in}
+use Rattle.dt_core.specs.Notes.{notes_appended}
 use Rattle.dt_core.specs.Sound.{Lists, IsSound}
 
 abbrev pub taken_in : {J : Type 0} → Option (HartState J) → List Record
@@ -33,19 +33,19 @@ lists_of c = record {
   is_ended = c.is_ended;
   taken = λ hart. taken_in (slice_get c.harts hart);
   queue = λ hart. queue_in (slice_get c.harts hart);
-  history = notes_in c.history;
+  history = notes_appended c.history;
 }
 
 pub record HoldsAfter {J : Type 0} (m : Meaning J) (harts : ℕ) (file : List Record) (c : CoreState J) : Type 0 where
   -- the lists are sound
   pub sound : IsSound file (lists_of c)
   -- each front of the history holds exactly the file's writes below its least mark
-  pub exact : (front : List Note) → IsPrefix front (notes_in c.history) → HoldsBelow (least_mark harts front) front file
+  pub exact : (front : List Note) → IsPrefix front (notes_appended c.history) → HoldsBelow (least_mark harts front) front file
   -- every outcome is the judgement over all writes of the file
   pub judged : (hart : ℕ) (s : HartState J) → slice_get c.harts hart ≡ Some s
       → AreAnswered m (writes_of file) (m.opening hart) (records_of hart file) s.outcomes s.state
   -- every Failure note is the failure of its hart over all writes of the file
-  pub failures : (before after : List Note) (key : Key) → notes_in c.history ≡ before ++ Failure key ∷ after
+  pub failures : (before after : List Note) (key : Key) → notes_appended c.history ≡ before ++ Failure key ∷ after
       → failure_by m (writes_of file) key.hart (records_of key.hart file) ≡ Some key
 
 -- after any list of steps from the start

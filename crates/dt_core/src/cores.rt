@@ -1,13 +1,13 @@
 ghost use Rattle.std.specs.Prelude.{◌≡◌, ◌<◌, ◌^◌, length, take, slice_set, Some, IsSome, IfOk, OnOk, OnErr};
 ghost use Rattle.std.specs.List.{slice_get, list_all};
 ghost use Rattle.dt_core.specs.Machine.{CoreState, new_harts, opening_state, queued, feed_next, take_of, HartState, has_crossed, ends_with, is_true, announce_of, seen_notes, next_record, judge_next, judge_of, step_state};
-ghost use Rattle.dt_core.specs.Notes.{notes_in};
+ghost use Rattle.dt_core.specs.Notes.{notes_appended};
 ghost use Rattle.dt_core.specs.Own.{IsSafe};
 
 use crate::entries::Entry;
 use crate::harts::Hart;
 use crate::judgements::Judgement;
-use crate::notes::{can_judge, notes_in};
+use crate::notes::{can_judge, notes_appended};
 use crate::steps::CoreStep;
 use crate::tells::{Teller, add_entries, is_mine, told};
 use crate::truths::{ends_with, is_crossed};
@@ -85,10 +85,10 @@ fn take_first<J: Judgement>(harts: &mut [Hart<J>], hart: u8) -> Result<(), Alloc
 
 /// The notes of the first entries.
 fn first_notes(alloc: Global, entries: &[Entry], count: usize) -> Result<Vec<Note>, AllocError>
-    ensures { IfOk result (λ notes. notes.items ≡ notes_in (take count entries.now)) }
+    ensures { IfOk result (λ notes. notes.items ≡ notes_appended (take count entries.now)) }
 {
     let end = count.min(entries.len());
-    notes_in(alloc, &entries[..end])
+    notes_appended(alloc, &entries[..end])
 }
 
 impl<J: Judgement> Core<J> {

@@ -2,15 +2,15 @@
 ghost use Rattle.std.specs.Prelude.{◌≡◌, ◌+◌, ◌||◌, nat_lt, IfOk};
 ghost use Rattle.dt_record.specs.Marks.{ends, stamp_in, mark_of, has_ended, least_with, least_mark, can_judge};
 ghost use Rattle.dt_core.specs.Marks.{mark_with};
-ghost use Rattle.dt_core.specs.Notes.{announced, notes_in};
+ghost use Rattle.dt_core.specs.Notes.{announced, notes_appended};
 
 use crate::entries::Entry;
 use dt_record::{Note, Write};
 use std::alloc::{AllocError, Global};
 
 /// The notes of a history.
-pub fn notes_in(alloc: Global, entries: &[Entry]) -> Result<Vec<Note>, AllocError>
-    ensures { IfOk result (λ notes. notes.items ≡ notes_in entries.now) }
+pub fn notes_appended(alloc: Global, entries: &[Entry]) -> Result<Vec<Note>, AllocError>
+    ensures { IfOk result (λ notes. notes.items ≡ notes_appended entries.now) }
 {
     let mut notes = Vec::new(alloc);
     for entry in entries {

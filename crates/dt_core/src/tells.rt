@@ -3,20 +3,20 @@ ghost use Rattle.std.specs.Prelude.{◌≡◌, ◌≤◌, ◌<◌, ◌++◌, ℕ
 ghost use Rattle.dt_record.specs.declared.limits.TheConstants.{HART_LIMIT, RECORD_LIMIT};
 ghost use Rattle.dt_record.specs.declared.writes.Note.{Note};
 ghost use Rattle.dt_core.specs.Machine.{HartState, is_mine, reach_by, new_writes, news_by, told};
-ghost use Rattle.dt_core.specs.Notes.{announced, hart_writes, notes_in, entries_of};
+ghost use Rattle.dt_core.specs.Notes.{announced, hart_writes, notes_appended, entries_by};
 ghost use Rattle.dt_core.specs.Own.{AreOfHart, AreTaken};
 
 use crate::entries::Entry;
 use crate::harts::Hart;
 use crate::judgements::Judgement;
-use crate::notes::{announced, notes_in};
+use crate::notes::{announced, notes_appended};
 use crate::writes::writes_by;
 use dt_record::{Note, Record, Write};
 use std::alloc::{AllocError, Global};
 
 /// Appends notes as entries of a worker.
 pub fn add_entries(history: &mut Vec<Entry>, worker: u8, notes: &[Note]) -> Result<(), AllocError>
-    ensures { OnOk result (history.new.items ≡ history.old.items ++ entries_of worker notes.now) }
+    ensures { OnOk result (history.new.items ≡ history.old.items ++ entries_by worker notes.now) }
 {
     for note in notes {
         history.push(Entry {
@@ -109,11 +109,11 @@ fn tell_hart<J: Judgement>(
     requires few { length state.now.taken ≤ RECORD_LIMIT }
     ensures { OnOk result (history.new.items
         ≡ (if is_mine by.workers by.worker hart
-        then history.old.items ++ entries_of by.worker (news_by by.is_ended hart state.now (notes_in history.old.items))
+        then history.old.items ++ entries_by by.worker (news_by by.is_ended hart state.now (notes_appended history.old.items))
         else history.old.items)) }
 {
     if is_mine(by.workers, by.worker, hart) {
-        let notes = notes_in(alloc, history)?;
+        let notes = notes_appended(alloc, history)?;
         let news = news_of(alloc, by.is_ended, hart, state, &notes)?;
         add_entries(history, by.worker, &news)?;
     }
