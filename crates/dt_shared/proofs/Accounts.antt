@@ -13,7 +13,7 @@ use Rattle.dt_shared.specs.declared.views.View.{View}
 use Rattle.dt_shared.specs.Entries.{notes_in, notes_of, entries_of}
 use Rattle.atomic_table.proofs.Lists.{set_else}
 use Rattle.dt_shared.specs.Views.{newcomer, EachPass, one_if, total, tally, over_passes, is_numbered, has_stopped}
-use Rattle.dt_shared.specs.Moments.{Kept}
+use Rattle.dt_shared.specs.Moments.{AccountStands}
 use Rattle.dt_shared.proofs.Totals.{each_set, each_more, total_set, total_same, total_more, total_part, total_parts, tally-append, none_numbered}
 use Rattle.dt_shared.proofs.Histories.{prefix_longer, notes_of-append, notes_of-entries_of, notes_of-others}
 
@@ -31,7 +31,7 @@ own_longer p history n notes own ne =
 
 module _ (most made : ℕ) (history : List Entry) (count halt : ℕ) (views : List View) (id : ℕ) (v : View) (at : get_elem? views id ≡ some v) where
   -- a step that leaves what passes know
-  pub same_passes : Kept most made history count halt views → (w : View) → w.passes ≡ v.passes → w.made ≡ v.made → Kept most made history count halt (set views id w)
+  pub same_passes : AccountStands most made history count halt views → (w : View) → w.passes ≡ v.passes → w.made ≡ v.made → AccountStands most made history count halt (set views id w)
   same_passes k w passes makes =
       let same : (f : Known → ℕ) → over_passes f (set views id w) ≡ over_passes f views = λ f. total_same (λ u. tally f u.passes) views id v w at (ap (tally f) (sym passes)) in record {
         counted = k.counted;
@@ -50,25 +50,25 @@ module _ (most made : ℕ) (history : List Entry) (count halt : ℕ) (views : Li
 
   -- a step in which one pass appends notes (or none), sees more, stops or sees a stop
   module _ (k k' : Known) (mine : v.passes ≡ k ∷ []) (number : k'.number ≡ k.number) where
-    alone : Kept most made history count halt views → tally (is_numbered k.number) v.passes ≡ 1
+    alone : AccountStands most made history count halt views → tally (is_numbered k.number) v.passes ≡ 1
     alone kept = ap (tally (is_numbered k.number)) mine ∙ (ap (λ b. one_if b + 0) (eq-eqb k.number k.number refl))
 
     -- no other seat stands for this pass
-    others : Kept most made history count halt views → (seat : ℕ) (u : View) → seat ≢ id → get_elem? views seat ≡ some u → All (λ p. p.number ≢ k.number) u.passes
+    others : AccountStands most made history count halt views → (seat : ℕ) (u : View) → seat ≢ id → get_elem? views seat ≡ some u → All (λ p. p.number ≢ k.number) u.passes
     others kept seat u ne there =
         let two = total_parts (λ (x : View). tally (is_numbered k.number) x.passes) views seat id u v ne there at in
         let one = alone kept in let most-one = one_if_le (nat_lt k.number made) in let all = kept.numbered k.number in
         none_numbered k.number u.passes (omega arith)
 
     -- its number is one that was given
-    pub below_made : Kept most made history count halt views → k.number < made
+    pub below_made : AccountStands most made history count halt views → k.number < made
     below_made kept =
         let part = total_part (λ (x : View). tally (is_numbered k.number) x.passes) views id v at in
         let one = alone kept in let all = kept.numbered k.number in
         below_if k.number made (omega arith)
 
     -- a pass that has stopped has set `halt`
-    pub stopped_halts : Kept most made history count halt views → k.stopped ≡ true → halt ≢ 0
+    pub stopped_halts : AccountStands most made history count halt views → k.stopped ≡ true → halt ≢ 0
     stopped_halts kept is runs =
         let part = total_part (λ (x : View). tally has_stopped x.passes) views id v at in
         let none-stopped = kept.runs runs in let one : one_if k.stopped ≡ 1 = ap one_if is in
@@ -78,10 +78,10 @@ module _ (most made : ℕ) (history : List Entry) (count halt : ℕ) (views : Li
     all_below [] n below = All-nil (λ (e : Entry). e.pass < made)
     all_below (x ∷ xs) n below = All-cons (λ (e : Entry). e.pass < made) (record { pass = n; note = x }) (entries_of n xs) below (all_below xs n below)
 
-    pub one_step : (kept : Kept most made history count halt views) (notes : List Note) (count' halt' : ℕ) (w : View) → w.passes ≡ k' ∷ [] → w.made ≡ v.made
+    pub one_step : (kept : AccountStands most made history count halt views) (notes : List Note) (count' halt' : ℕ) (w : View) → w.passes ≡ k' ∷ [] → w.made ≡ v.made
         → count' ≡ length (history ++ entries_of k.number notes) → IsPrefix k'.seen (history ++ entries_of k.number notes) → k'.own ≡ k.own ++ notes
         → (halt' ≡ 0 → halt ≡ 0) → (k'.saw_stop ≡ true → halt' ≢ 0) → (k'.stopped ≡ true → halt' ≢ 0) → has_stopped k ≤ has_stopped k' → (halt' ≢ 0 → (halt ≢ 0) ⊎ (has_stopped k' ≡ 1))
-        → Kept most made (history ++ entries_of k.number notes) count' halt' (set views id w)
+        → AccountStands most made (history ++ entries_of k.number notes) count' halt' (set views id w)
     one_step kept notes count' halt' w now makes counted seen own runs saw stops stays why =
         let new : List Entry = entries_of k.number notes in let all : List Entry = history ++ new in
         let numbers : (n : ℕ) → tally (is_numbered n) v.passes ≡ tally (is_numbered n) w.passes =
@@ -131,8 +131,8 @@ one_more n made = grind (arith, nat_tests)
 
 module _ (most made : ℕ) (history : List Entry) (count halt : ℕ) (views : List View) (id : ℕ) (v : View) (at : get_elem? views id ≡ some v) where
   -- a pass is made: it gets the number made so far
-  pub makes_pass : Kept most made history count halt views → 0 < v.made → v.made < most → (left right : View) → left.passes ≡ v.passes → left.made ≡ v.made + 1 → right.passes ≡ newcomer v.made ∷ [] → right.made ≡ 0
-      → Kept most (made + 1) history count halt (set views id left ++ right ∷ [])
+  pub makes_pass : AccountStands most made history count halt views → 0 < v.made → v.made < most → (left right : View) → left.passes ≡ v.passes → left.made ≡ v.made + 1 → right.passes ≡ newcomer v.made ∷ [] → right.made ≡ 0
+      → AccountStands most (made + 1) history count halt (set views id left ++ right ∷ [])
   makes_pass kept some_made room left right same one_up fresh no_maker =
       let is : v.made ≡ made = ⊎_elim (λ (z : v.made ≡ 0). absurd (omega arith)) (λ (e : v.made ≡ made). e) (kept.makers id v at) in
       let over : (f : Known → ℕ) → over_passes f (set views id left ++ right ∷ []) ≡ over_passes f views + f (newcomer v.made) =
@@ -166,8 +166,8 @@ module _ (most made : ℕ) (history : List Entry) (count halt : ℕ) (views : Li
       }
 
   -- passes are given back to another seat
-  pub joins : Kept most made history count halt views → (other : ℕ) (u : View) → other ≢ id → get_elem? views other ≡ some u → (both spent : View) → both.passes ≡ u.passes ++ v.passes → both.made ≡ v.made + u.made
-      → spent.passes ≡ [] → spent.made ≡ 0 → Kept most made history count halt (set (set views id both) other spent)
+  pub joins : AccountStands most made history count halt views → (other : ℕ) (u : View) → other ≢ id → get_elem? views other ≡ some u → (both spent : View) → both.passes ≡ u.passes ++ v.passes → both.made ≡ v.made + u.made
+      → spent.passes ≡ [] → spent.made ≡ 0 → AccountStands most made history count halt (set (set views id both) other spent)
   joins kept other u ne there both spent all_passes all_made no_passes no_maker =
       let there' : get_elem? (set views id both) other ≡ some u = set_else views id other both ne ∙ there in
       let sums : (f : View → ℕ) → f both ≡ f v + f u → f spent ≡ 0 → total f (set (set views id both) other spent) ≡ total f views =

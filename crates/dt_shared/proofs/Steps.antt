@@ -17,7 +17,7 @@ use Rattle.dt_shared.specs.declared.views.Known.{Known}
 use Rattle.dt_shared.specs.declared.views.View.{View}
 use Rattle.dt_shared.specs.Entries.{notes_in, entries_of}
 use Rattle.dt_shared.specs.Views.{newcomer, one_if, at_rest, waiting, holding, total, tally, in_line}
-use Rattle.dt_shared.specs.Moments.{Stored, Home, Words, word_list, Lined, Kept, Moment, Holds}
+use Rattle.dt_shared.specs.Moments.{Stored, Home, Words, word_list, Lined, AccountStands, Moment, Holds}
 use Rattle.dt_shared.specs.Turns.{Rests, HasTurn}
 use Rattle.dt_shared.specs.Steps.{Seated, Agrees, Draws, Comes, published, Publishes, looked, Looks, Leaves, maker, made_pass, joined, spent, halted, Stops, asked, Asks}
 use Rattle.dt_shared.proofs.Totals.{total_below, tally_count}
@@ -114,7 +114,7 @@ publishes_allowed most slots id k made t xs list notes n added many small =
         history = list.items;
         made = m.made;
         line = line.1;
-        kept = subst (λ (ys : List Entry). Kept most m.made ys ((w.count + n) % 2 ^ 64) w.halt (set views id v)) (sym all)
+        kept = subst (λ (ys : List Entry). AccountStands most m.made ys ((w.count + n) % 2 ^ 64) w.halt (set views id v)) (sym all)
             (one_step most m.made m.history w.count w.halt views id (holding (k ∷ []) made t xs) at k k' refl refl m.kept notes ((w.count + n) % 2 ^ 64) w.halt v refl refl
             (omega arith) (subst (IsPrefix list.items) all (prefix_itself list.items)) (ap (λ ys. k.own ++ ys) new) (λ z. z) (All-head (λ (p : Known). p.saw_stop ≡ true → w.halt ≢ 0) k [] (m.kept.saw id (holding (k ∷ []) made t xs) at))
             (stopped_halts most m.made m.history w.count w.halt views id (holding (k ∷ []) made t xs) at k k' refl refl m.kept) (omega arith) (λ h. inl h));
@@ -126,10 +126,10 @@ publishes_allowed most slots id k made t xs list notes n added many small =
 learned : (most : ℕ) (w : Words) (home : Home) (views : List View) (m : Moment most w home views) (id : ℕ) (v u : View) (k k' : Known) (halt' : ℕ) → get_elem? views id ≡ some v → v.passes ≡ k ∷ [] → u.passes ≡ k' ∷ [] → u.made ≡ v.made
     → k'.number ≡ k.number → IsPrefix k'.seen m.history → k'.own ≡ k.own
     → (halt' ≡ 0 → w.halt ≡ 0) → (k'.saw_stop ≡ true → halt' ≢ 0) → (k'.stopped ≡ true → halt' ≢ 0) → one_if k.stopped ≤ one_if k'.stopped → (halt' ≢ 0 → (w.halt ≢ 0) ⊎ (one_if k'.stopped ≡ 1))
-    → Kept most m.made m.history w.count halt' (set views id u)
+    → AccountStands most m.made m.history w.count halt' (set views id u)
 learned most w home views m id v u k k' halt' at mine now makes number seen own runs saw stops stays why =
     let same : m.history ++ [] ≡ m.history = append-nil m.history in
-    subst (λ (ys : List Entry). Kept most m.made ys w.count halt' (set views id u)) same
+    subst (λ (ys : List Entry). AccountStands most m.made ys w.count halt' (set views id u)) same
     (one_step most m.made m.history w.count w.halt views id v at k k' mine number m.kept [] w.count halt' u now makes (m.kept.counted ∙ ap length (sym same)) (subst (IsPrefix k'.seen) (sym same) seen)
     (own ∙ sym (append-nil k.own)) runs saw stops stays why)
 

@@ -45,7 +45,7 @@ pub record Lined (front : ℕ) (history : List Entry) (ticket serving : ℕ) (ho
   pub holder : EachView views (λ v. IfSome v.held (λ xs. (xs ≡ history) × (v.ticket ≡ Some front) × (home ≡ none)))
 
 -- what the passes know. `most` is how many passes there are to be, and `made` how many were made so far
-pub record Kept (most made : ℕ) (history : List Entry) (count halt : ℕ) (views : List View) : Type 0 where
+pub record AccountStands (most made : ℕ) (history : List Entry) (count halt : ℕ) (views : List View) : Type 0 where
   -- the history has `count` entries. What the seat that has the slot puts behind the list is no part of it before it is counted
   pub counted : count ≡ length history
   -- what a pass has seen is how the history begins
@@ -72,7 +72,7 @@ pub record Moment (most : ℕ) (w : Words) (home : Home) (views : List View) : T
   pub history : List Entry
   pub made : ℕ
   pub line : Lined front history w.ticket w.serving home views
-  pub kept : Kept most made history w.count w.halt views
+  pub kept : AccountStands most made history w.count w.halt views
 
 -- the rule over the table
 pub record Holds (most : ℕ) (s : State Stored View) : Type 0 where
