@@ -79,8 +79,8 @@ pub record IsVerdictOver (records : List Record) (runs : List AllowedRun) (verdi
 
 -- A verdict and notes come to this check: over any image, where the harts' runs have this verdict, and notes that are these
 -- below it.
-abbrev pub ComesTo : (harts : ℕ) → List Record → Verdict → List Noted → Checked → Type 0
-ComesTo harts records verdict notes checked = (image : List ℕ) (wide : Bool) (runs : List AllowedRun)
+abbrev pub IsConclusion : (harts : ℕ) → List Record → Verdict → List Noted → Checked → Type 0
+IsConclusion harts records verdict notes checked = (image : List ℕ) (wide : Bool) (runs : List AllowedRun)
     → AreRuns image wide harts records runs → IsVerdictOver records runs verdict → AreNotesBelow (limit_of verdict) notes records runs
     → IsChecked image wide harts records checked
 

@@ -5,7 +5,7 @@ ghost use Rattle.dt_record.specs.Keys.{records_of};
 ghost use Rattle.dt_record.specs.Streams.{IsFresh, Rose};
 ghost use Rattle.dt_tallies.specs.Counting.{counts_of};
 ghost use Rattle.dt_verdict.specs.declared.answers.Refusal.TheVariants as refusal;
-ghost use Rattle.dt_pass.specs.Checked.{ComesTo, IsCheckOf, IsChecked, limit_of};
+ghost use Rattle.dt_pass.specs.Checked.{IsConclusion, IsCheckOf, IsChecked, limit_of};
 ghost use Rattle.dt_pass.specs.Running.{AreJudgeable};
 ghost use Rattle.dt_tallies.specs.Naming.{named_notes};
 ghost use Rattle.dt_reading.specs.Reading.{AreStreamed, IsRefusedAt, refusal_in, with_header};
@@ -107,7 +107,7 @@ pub fn checked(
 ) -> Result<Checked, AllocError>
     requires few_harts { harts ≤ 8 }
     requires few_records { length records.now ≤ RECORD_LIMIT }
-    ensures { IfOk result (λ checked. ComesTo harts records.now verdict notes.items checked) }
+    ensures { IfOk result (λ checked. IsConclusion harts records.now verdict notes.items checked) }
 {
     let tallies = tallied(alloc, harts, records, limit_of(&verdict), notes)?;
     Ok(Checked {
