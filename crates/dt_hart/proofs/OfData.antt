@@ -23,7 +23,7 @@ use Rattle.dt_windows.specs.Kept.{FencesStand, WindowsView, later_of, windows_vi
 use Rattle.dt_hart.specs.declared.accesses.Accesses.{Accesses}
 use Rattle.dt_hart.specs.declared.replays.Replayed.{Replayed}
 use Rattle.dt_hart.specs.Fences.{fences_of}
-use Rattle.dt_hart.specs.Fronts.{IsFront}
+use Rattle.dt_hart.specs.Fronts.{IsLegal}
 use Rattle.dt_hart.specs.HartData.{HasArch, HasData, kept_values, number_of, page_number, page_pair}
 use Rattle.dt_hart.specs.HartView.{HartView}
 use Rattle.dt_hart.specs.OwnWrites.{are_of, are_rising}
@@ -119,7 +119,7 @@ windows_stand s d instructions its rising given is = record {
 -- ---- the whole
 
 pub hart_of_data : (s : Setting) (d : HartState) (a : Arch) (v : Replayed) (local : LocalMemory) (h : HartView)
-    → are_of s.hart s.before ≡ true → are_rising s.before ≡ true → IsFront s → HasData s d
+    → are_of s.hart s.before ≡ true → are_rising s.before ≡ true → IsLegal s → HasData s d
     → HasArch a d → a.hart ≡ s.hart → a.csrs.wide ≡ s.wide → IsReplayed a.hart v s.before
     → ((byte : ℕ) → newest_of local byte ≡ lookup (λ x. x == byte) (map pair_of d.known))
     → h.arch ≡ a → h.seq ≡ v.seq → h.stamp ≡ v.stamp → h.stores ≡ v.accesses.stores → h.keys ≡ local.keys → h.floor ≡ d.order → h.last_read ≡ v.accesses.last_read

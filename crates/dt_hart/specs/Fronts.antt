@@ -17,7 +17,7 @@ abbrev pub ArePlaced : List Record → Type 0
 ArePlaced records = (n : ℕ) (r : Record) → slice_get records n ≡ Some r → IsTrue (is_placed (action_of n r))
 
 -- the records before the next one are allowed, and their loads read at the moments of the least fitting assignment
-pub record IsFront (s : Setting) : Type 0 where
+pub record IsLegal (s : Setting) : Type 0 where
   pub chosen : AreLeastSources s.image s.writes (did s) s.moments
   pub judged : AreJudged s.writes (did s) (next_key s)
   pub drained : AreDrained s.before

@@ -4,7 +4,7 @@ ghost use Rattle.dt_csr.specs.Kept.{AreKeptInBounds, KeepsBounds, values_of};
 ghost use Rattle.dt_record.specs.declared.limits.TheConstants.{RECORD_LIMIT};
 ghost use Rattle.dt_record.specs.Lawful.{is_lawful};
 ghost use Rattle.dt_step.specs.State.{IsArch, IsReachable};
-ghost use Rattle.dt_hart.specs.Fronts.{IsFront, IsOver};
+ghost use Rattle.dt_hart.specs.Fronts.{IsLegal, IsOver};
 ghost use Rattle.dt_hart.specs.HartData.{HasArch, HasData, IsWithin, AreListed, kept_values, page_pair};
 ghost use Rattle.dt_windows.specs.Kept.{windows_view};
 ghost use Rattle.dt_hart.specs.Replaying.{numbered_key};
@@ -60,7 +60,7 @@ impl Hart {
         requires its { IsTrue (are_of number before.now) }
         requires rising { IsTrue (are_rising before.now) }
         requires counted { s.now.seq ≡ length before.now }
-        ensures stands { IfOk result (λ h. (t : Setting) → IsOver number wide before.now t → IsFront t → HasData t s.now → HartStands h t) }
+        ensures stands { IfOk result (λ h. (t : Setting) → IsOver number wide before.now t → IsLegal t → HasData t s.now → HartStands h t) }
         ensures number { IfOk result (λ h. h.arch.hart ≡ number) }
         ensures seq { IfOk result (λ h. h.seq ≡ length before.now) }
         ensures stamp { IfOk result (λ h. h.stamp ≡ last_stamp before.now) }
