@@ -10,9 +10,9 @@ use Rattle.dt_record.specs.declared.streams.Next.{Next}
 use Rattle.dt_record.specs.declared.streams.Next.TheVariants.{Header, Event, End, Malformed, Limit, ReadFault, OutOfMemory}
 use Rattle.dt_record.specs.Spelling.{Version, record_bytes, end_bytes}
 use Rattle.dt_record.specs.Lawful.{IsLawful}
-use Rattle.dt_record.specs.ProbeFile.{header_bytes, records_bytes, no_stamps, stamped}
+use Rattle.dt_record.specs.ProbeFile.{header_bytes, records_bytes, no_stamps, stamped, stamps_after}
 use Rattle.dt_record.specs.Streams.{Progress, IsFresh, TakesHeader, TakesRecord, TakesAnswer}
-use Rattle.dt_reading.specs.Underway.{HasGiven, IsUnderway, so_far, stamps_after}
+use Rattle.dt_reading.specs.Underway.{HasGiven, IsUnderway, so_far}
 use Rattle.dt_reading.proofs.Underway as stream
 use Rattle.dt_dump.specs.Dump.{records_in}
 use Rattle.dt_dump.proofs.ReadRecords.{HasRead, came_last, has_read}

@@ -7,10 +7,10 @@ use Rattle.dt_record.specs.declared.streams.Next.TheVariants.{Header, Event, Mal
 use Rattle.dt_record.specs.declared.writes.What.{What}
 use Rattle.dt_record.specs.declared.writes.What.TheVariants.{Records, Writes}
 use Rattle.dt_record.specs.Spelling.{Version, half, word, record_bytes, end_bytes}
-use Rattle.dt_record.specs.ProbeFile.{IsNext, AreRecords, header_bytes, no_stamps, stamped, records_bytes}
+use Rattle.dt_record.specs.ProbeFile.{IsNext, AreRecords, header_bytes, no_stamps, stamped, stamps_after, records_bytes}
 use Rattle.dt_record.specs.Writes.{writes_memory}
 use Rattle.dt_record.specs.Answers.{Reading, opened, after_record, spelled_next, GoesOn, IsMalformed, IsTooMany, AreAnswersAfter, AreAnswers}
-use Rattle.dt_probe_file.specs.Broken.{last_stamps, BeginWithNext, IsBrokenFile, IsPastLimit, BrokenFilesAreMalformed, LongFilesAreLimited, FrontsAreAnswered}
+use Rattle.dt_probe_file.specs.Broken.{BeginWithNext, IsBrokenFile, IsPastLimit, BrokenFilesAreMalformed, LongFilesAreLimited, FrontsAreAnswered}
 use Rattle.dt_probe_file.specs.Computing.{answers_after}
 use Rattle.dt_probe_file.specs.OpenFronts.{IsFileFront}
 use Rattle.dt_probe_file.specs.Origins.{reading_after}
@@ -120,7 +120,7 @@ front_gives bytes version harts wide records rest tail f a =
 
 -- ---- what was read behind some records
 
-last_after : (s : Reading) (records : List Record) → (reading_after s records).last ≡ last_stamps s.last records
+last_after : (s : Reading) (records : List Record) → (reading_after s records).last ≡ stamps_after s.last records
 last_after s [] = refl
 last_after s (r ∷ rs) = last_after (after_record s r) rs
 
@@ -153,7 +153,7 @@ goes_begins version harts records bytes r more goes =
       subst (λ (last : ℕ → ℕ). IsNext harts last r) (last_after (opened version harts) records)
           (subst (λ (n : ℕ). IsNext n s.last r) (harts_after (opened version harts) records) goes.next),
       goes.spelled ∙ ap (λ (z : List ℕ). z ++ more)
-          (same_spelling s.version version s.last (last_stamps no_stamps records) r (version_after (opened version harts) records) (last_after (opened version harts) records)),
+          (same_spelling s.version version s.last (stamps_after no_stamps records) r (version_after (opened version harts) records) (last_after (opened version harts) records)),
     )
 
 begins_goes : (version : Version) (harts : ℕ) (records : List Record) (bytes : List ℕ) (r : Record) (more : List ℕ)
@@ -162,7 +162,7 @@ begins_goes version harts records bytes r more begins =
     let s = reading_after (opened version harts) records in
     record {
       spelled = begins.1 ∙ ap (λ (z : List ℕ). z ++ more)
-          (sym (same_spelling s.version version s.last (last_stamps no_stamps records) r (version_after (opened version harts) records) (last_after (opened version harts) records)));
+          (sym (same_spelling s.version version s.last (stamps_after no_stamps records) r (version_after (opened version harts) records) (last_after (opened version harts) records)));
       next = subst (λ (n : ℕ). IsNext n s.last r) (sym (harts_after (opened version harts) records))
           (subst (λ (last : ℕ → ℕ). IsNext harts last r) (sym (last_after (opened version harts) records)) begins.0);
     }

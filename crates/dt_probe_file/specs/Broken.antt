@@ -8,20 +8,15 @@ use Rattle.dt_record.specs.declared.streams.Next.TheVariants.{Header, Event, Mal
 use Rattle.dt_record.specs.declared.writes.What.{What}
 use Rattle.dt_record.specs.declared.writes.What.TheVariants.{Records, Writes}
 use Rattle.dt_record.specs.Spelling.{Version, record_bytes, end_bytes}
-use Rattle.dt_record.specs.ProbeFile.{IsNext, no_stamps, stamped}
+use Rattle.dt_record.specs.ProbeFile.{IsNext, no_stamps, stamps_after}
 use Rattle.dt_record.specs.Writes.{writes_memory}
 use Rattle.dt_record.specs.Answers.{AreAnswers}
 use Rattle.dt_probe_file.specs.OpenFronts.{IsFileFront}
 
--- the stamp of each hart's last record after further records
-abbrev pub last_stamps : (ℕ → ℕ) → List Record → ℕ → ℕ
-last_stamps last [] = last
-last_stamps last (r ∷ rs) = last_stamps (stamped last r) rs
-
 -- the bytes begin with a record that may come next behind these, and go on with these bytes
 abbrev pub BeginWithNext : Version → ℕ → List Record → List ℕ → Record → List ℕ → Type 0
 BeginWithNext version harts records bytes r more =
-    IsNext harts (last_stamps no_stamps records) r × (bytes ≡ record_bytes version (last_stamps no_stamps records r.hart) r ++ more)
+    IsNext harts (stamps_after no_stamps records) r × (bytes ≡ record_bytes version (stamps_after no_stamps records r.hart) r ++ more)
 
 -- behind these records the bytes begin neither with a record that may come next nor with the end of so many records
 pub record AreBroken (version : Version) (harts : ℕ) (records : List Record) (bytes : List ℕ) : Type 0 where
@@ -42,7 +37,8 @@ IsBrokenFile bytes harts wide records offset =
 abbrev pub IsPastLimit : List Record → Record → What → ℕ → Type 0
 IsPastLimit records r Records number = (RECORD_LIMIT < length (records ++ r ∷ [])) × (number ≡ RECORD_LIMIT + 1)
 IsPastLimit records r Writes number =
-    (length (records ++ r ∷ []) ≤ RECORD_LIMIT) × (WRITE_LIMIT < length (filter writes_memory (records ++ r ∷ []))) × (number ≡ WRITE_LIMIT + 1)
+    (length (records ++ r ∷ []) ≤ RECORD_LIMIT) × (WRITE_LIMIT < length (filter writes_memory (records ++ r ∷ [])))
+    × (number ≡ WRITE_LIMIT + 1)
 
 -- a file is past a limit behind these records, with the next one
 abbrev pub IsFilePastLimit : List ℕ → ℕ → Bool → List Record → What → ℕ → Type 0
@@ -54,7 +50,8 @@ IsFilePastLimit bytes harts wide records what number =
 abbrev pub BrokenFilesAreMalformed : Type 0
 BrokenFilesAreMalformed =
     (bytes : List ℕ) (harts : ℕ) (wide : Bool) (records : List Record) (offset : ℕ)
-    → AreAnswers bytes (Header harts wide ∷ map (λ r. Event r) records ++ Malformed offset ∷ []) ↔ IsBrokenFile bytes harts wide records offset
+    → AreAnswers bytes (Header harts wide ∷ map (λ r. Event r) records ++ Malformed offset ∷ [])
+    ↔ IsBrokenFile bytes harts wide records offset
 
 -- and they give a header, records and a limit exactly where they are past it
 abbrev pub LongFilesAreLimited : Type 0

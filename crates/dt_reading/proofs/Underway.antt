@@ -6,12 +6,12 @@ use Rattle.dt_lists.proofs.Lists.{some_and}
 use Rattle.dt_record.specs.declared.records.Record.{Record}
 use Rattle.dt_record.specs.declared.streams.Next.{Next}
 use Rattle.dt_record.specs.declared.streams.Next.TheVariants.{Header, Event, End, Malformed, Limit, ReadFault, OutOfMemory}
-use Rattle.dt_record.specs.ProbeFile.{AreRecords, IsNext, no_stamps, stamped}
+use Rattle.dt_record.specs.ProbeFile.{AreRecords, IsNext, no_stamps, stamped, stamps_after}
 use Rattle.dt_record.specs.Streams.{Progress, IsFresh, TakesHeader, TakesRecord, TakesAnswer, EndsWith}
 use Rattle.dt_record.specs.Writes.{writes_memory}
 use Rattle.dt_verdict.specs.declared.answers.Refusal.{Refusal}
 use Rattle.dt_reading.specs.Reading.{HasCome, first_answers, refusal_in, with_header}
-use Rattle.dt_reading.specs.Underway.{HasGiven, HaveBegun, IsBehindHeader, IsOpened, IsUnderway, remaining, so_far, stamps_after}
+use Rattle.dt_reading.specs.Underway.{HasGiven, HaveBegun, IsBehindHeader, IsOpened, IsUnderway, remaining, so_far}
 
 -- what is told of the answers, changed
 pub told_map : (told : Option (List Next)) (P Q : List Next → Type 0) → IfSome told P → ((answers : List Next) → P answers → Q answers) → IfSome told Q

@@ -3,7 +3,7 @@ use Rattle.std.specs.Prelude.{ℕ, ◌≡◌, ◌≤◌, ◌+◌, ◌-◌, Bool,
 use Rattle.dt_record.specs.declared.limits.TheConstants.{HART_LIMIT, RECORD_LIMIT, WRITE_LIMIT}
 use Rattle.dt_record.specs.declared.records.Record.{Record}
 use Rattle.dt_record.specs.declared.streams.Next.{Next}
-use Rattle.dt_record.specs.ProbeFile.{AreRecords, no_stamps, stamped}
+use Rattle.dt_record.specs.ProbeFile.{AreRecords, no_stamps, stamps_after}
 use Rattle.dt_record.specs.Streams.{Progress}
 use Rattle.dt_record.specs.Writes.{writes_memory}
 use Rattle.dt_reading.specs.Reading.{first_answers}
@@ -23,11 +23,6 @@ pub record IsBehindHeader (harts : ℕ) (wide : Bool) (p : Progress) : Type 0 wh
 abbrev pub so_far : Option ℕ → Bool → List Record → List Next
 so_far None wide records = []
 so_far (Some harts) wide records = first_answers harts wide records
-
--- the stamp of each hart's last record after these records
-abbrev pub stamps_after : (ℕ → ℕ) → List Record → ℕ → ℕ
-stamps_after last [] = last
-stamps_after last (r ∷ rs) = stamps_after (stamped last r) rs
 
 -- what a stream has told behind its header
 pub record IsOpened (h harts : ℕ) (wide : Bool) (records : List Record) (p : Progress) : Type 0 where

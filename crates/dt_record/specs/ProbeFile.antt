@@ -20,6 +20,11 @@ no_stamps hart = 0
 abbrev pub stamped : (ℕ → ℕ) → Record → ℕ → ℕ
 stamped last r hart = if hart == r.hart then r.stamp else last hart
 
+-- the stamp of each hart's last record after these records, which come after others that left these last stamps
+abbrev pub stamps_after : (ℕ → ℕ) → List Record → ℕ → ℕ
+stamps_after last [] = last
+stamps_after last (r ∷ rs) = stamps_after (stamped last r) rs
+
 -- the spellings of records in their order, after records that left these last stamps
 abbrev pub records_bytes : Version → (ℕ → ℕ) → List Record → List ℕ
 records_bytes version last [] = []
