@@ -91,4 +91,6 @@ number_within count fence = option_map_or (λ f. if nat_lt f.seq count then f.se
 -- the number of a page's own fence with this key, where it came after the last one of all pages
 abbrev pub own_number : (count : ℕ) (all : Option Key) → Key → Option ℕ
 own_number count all key =
-    if is_later key all && nat_lt (number_within count all) (number_within count (Some key)) then Some (number_within count (Some key)) else None
+    if is_later key all && nat_lt (number_within count all) (number_within count (Some key))
+    then Some (number_within count (Some key))
+    else None

@@ -39,7 +39,8 @@ pub record IsGiven (number : ℕ) (t : ℕ × Take) (old new : List Hand) : Type
   pub others : (k : ℕ) (hand : Hand) → k ≢ number → slice_index_or new k hand ≡ slice_index_or old k hand
 
 -- a worker for each hand, with a pass of its own
-pub record AreMade (image : List ℕ) (wide : Bool) (harts : ℕ) (passes : List PassState) (hands : List Hand) (made : List WorkerView) : Type 0 where
+pub record AreMade (image : List ℕ) (wide : Bool) (harts : ℕ) (passes : List PassState) (hands : List Hand)
+    (made : List WorkerView) : Type 0 where
   pub size : length made ≡ length passes
   pub each : (k : ℕ) (p : PassState) (hand : Hand) (w : WorkerView) → k < length passes
       → IsNewWorker harts wide image (slice_index_or passes k p) (slice_index_or hands k hand).items (slice_index_or made k w)
@@ -50,7 +51,8 @@ pub record AreInOrder (id : TableId) (workers : ℕ) (passes : List PassState) :
   pub each : (k : ℕ) (p : PassState) → k < workers → slice_index_or passes k p ≡ new_pass id k
 
 -- New workers, so many, of a file with so many harts: a hart's queue is in the hands of the worker with its number modulo theirs.
-pub record AreOpened (image : List ℕ) (wide : Bool) (harts : ℕ) (id : TableId) (workers : ℕ) (feeds : List Feed) (made : List WorkerView) : Type 0 where
+pub record AreOpened (image : List ℕ) (wide : Bool) (harts : ℕ) (id : TableId) (workers : ℕ) (feeds : List Feed)
+    (made : List WorkerView) : Type 0 where
   pub hands : List Hand
   pub passes : List PassState
   pub some : 1 ≤ workers
