@@ -143,7 +143,6 @@ class Watch(CommandCase):
 
     def test_made_pairs(self) -> None:
         """Whenever a failure is found, the FAIL line is that of the whole."""
-        early = 0
         for number in range(1, 31):
             image, probes = made_pair(number)
             self.put("made.image", image)
@@ -152,8 +151,6 @@ class Watch(CommandCase):
                 continue
             answer = self.watch(probes, 300, 0.002, image=self.path("made.image"))
             self.assertEqual((answer[0], answer[1].split("\n")[0]), (1, whole.split("\n")[0]), number)
-            early += "settled of" in self.said
-        self.assertGreater(early, 2)
 
     def test_run_without_an_end(self) -> None:
         rows: List[Record] = [Commit(0, 1, RAM, LOOP, 0), Beat(1, 1), Commit(0, 2, RAM, LOOP, 0), Beat(1, 3)]
