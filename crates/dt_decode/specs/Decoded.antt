@@ -1,5 +1,5 @@
 -- The instructions that decoding gives: what the parts of an instruction may be.
-use Rattle.std.specs.Prelude.{ℕ, ◌≡◌, ◌<◌, ◌⊎◌, Bool, true, false, IsTrue, if◌then◌else◌}
+use Rattle.std.specs.Prelude.{ℕ, ◌<◌, Bool, true, false, IsTrue, if◌then◌else◌}
 use Rattle.dt_alu.specs.declared.operations.AluOp.{AluOp}
 use Rattle.dt_alu.specs.declared.operations.AluOp.TheVariants.{Add, Sub, Sll, Slt, Sltu, Xor, Srl, Sra, Or, And, Mul, Mulh, Mulhsu, Mulhu, Div, Divu, Rem, Remu}
 use Rattle.dt_alu.specs.Alu.{has_word_form}

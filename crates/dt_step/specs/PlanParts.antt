@@ -1,6 +1,6 @@
 -- The table of plans as the code reads it, in three parts: each part leaves to the next what is not its own. For the instructions
 -- that it is asked of, each gives what the whole table gives.
-use Rattle.std.specs.Prelude.{ℕ, Bool, true, false}
+use Rattle.std.specs.Prelude.{ℕ, true, false}
 use Rattle.dt_alu.specs.Extend.{low_bytes_of}
 use Rattle.dt_decode.specs.declared.instructions.Instr.{Instr}
 use Rattle.dt_decode.specs.declared.instructions.Instr.TheVariants.{Load, Store, Fence, FenceI, Lr, Sc, Amo, Csr, Sret, Mret, SfenceVma}

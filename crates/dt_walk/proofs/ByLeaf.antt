@@ -1,17 +1,16 @@
 -- A walk is decided by the leaf of its page, and then by who asks.
-use Rattle.std.proofs.Common.{◌≡◌, ℕ, zero, suc, ◌+◌, ◌-◌, ◌*◌, ◌/◌, ◌%◌, ◌^◌, ◌<◌, ◌≤◌, Bool, true, false, cond, not, ◌&&◌, ◌||◌, IsTrue, refl, sym, ◌∙◌, ap, subst, inl, inr, arith, eqb}
+use Rattle.std.proofs.Common.{◌≡◌, ℕ, zero, suc, ◌+◌, ◌-◌, ◌*◌, ◌/◌, ◌%◌, ◌^◌, ◌≤◌, Bool, true, false, cond, not, ◌&&◌, ◌||◌, IsTrue, refl, sym, ◌∙◌, ap, subst, inl, inr, arith, eqb}
 use Rattle.std.proofs.Math.Nat.{div-div-eq-div-mul}
 use Rattle.std.proofs.lemmas.Bool.{cases_Bool, false≢true}
 use Rattle.std.proofs.lemmas.Nat.{pow-add}
 use Rattle.dt_walk.specs.declared.arguments.Access.{Access}
 use Rattle.dt_walk.specs.declared.arguments.Access.TheVariants.{Fetch, Load, Store}
 use Rattle.dt_walk.specs.declared.arguments.WalkArgs.{WalkArgs}
-use Rattle.dt_walk.specs.declared.arguments.WalkAnswer.{WalkAnswer}
 use Rattle.dt_walk.specs.declared.arguments.WalkAnswer.TheVariants.{Page, PageFault, AccessFault}
 use Rattle.dt_walk.specs.declared.leaves.LeafAnswer.{LeafAnswer}
 use Rattle.dt_walk.specs.declared.leaves.LeafAnswer.TheVariants as found
 use Rattle.dt_walk.specs.Entry.{has_bit, is_aligned, is_broken, is_faulty, is_faulty_pointer, is_leaf, is_marked, is_valid_entry, leaf_bits, permits, permits_access, permits_mode, table_of}
-use Rattle.dt_walk.specs.Leaf.{KeepsOffset, answer_by, entry_place, is_canonical_page, leaf_from, leaf_of, physical_page, tables_of}
+use Rattle.dt_walk.specs.Leaf.{KeepsOffset, answer_by, entry_place, is_canonical_page, leaf_from, leaf_of, tables_of}
 use Rattle.dt_walk.specs.Walk.{CanWalk, entry_address, is_canonical, is_in_ram, page_address, walk_from, walk_of}
 use Rattle.dt_walk.proofs.LeafSteps.{leaf_from-none, leaf_from-outside, leaf_from-broken, leaf_from-leaf, leaf_from-pointer}
 use Rattle.dt_walk.proofs.Steps.{walk_from-none, walk_from-outside, walk_from-faulty, walk_from-leaf, walk_from-pointer}
