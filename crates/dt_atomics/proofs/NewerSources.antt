@@ -1,11 +1,10 @@
-use Rattle.std.proofs.Common.{ℕ, ◌≡◌, ◌+◌, ◌↔◌, false, Option, Some, None, IsTrue, refl, sym, subst, arith}
+use Rattle.std.proofs.Common.{ℕ, ◌≡◌, ◌+◌, ◌↔◌, Option, Some, None, IsTrue, refl, sym, subst}
 use Rattle.std.proofs.lemmas.Bool.{false≢true}
-use Rattle.std.proofs.lemmas.Bool.Decides.{nat_tests}
 use Rattle.dt_record.proofs.KeyChains.{below-chain}
 use Rattle.dt_local.specs.LocalMemory.{LocalMemory, newest_of}
 use Rattle.dt_record.specs.declared.keys.Key.{Key}
 use Rattle.dt_record.specs.declared.origins.Origin.TheVariants as origin
-use Rattle.dt_record.specs.Keys.{key_below, KeyBelow}
+use Rattle.dt_record.specs.Keys.{KeyBelow}
 use Rattle.dt_record.specs.LoadSources.{origin_of_key}
 use Rattle.dt_record.specs.Memory.{source_at, moment_of}
 use Rattle.dt_loads.specs.Newer.{is_newer_than}

@@ -4,7 +4,7 @@ use Rattle.std.proofs.lemmas.Bool.Decides.{nat_tests}
 use Rattle.dt_loads.proofs.Lines.{is_zero, in_ram}
 use Rattle.dt_alu.specs.Amo.{IsAmoWidth}
 use Rattle.dt_alu.specs.Extend.{IsAccessWidth}
-use Rattle.dt_record.specs.Lawful.{is_atomic_place, is_in_ram}
+use Rattle.dt_record.specs.Lawful.{is_atomic_place}
 
 -- Where an atomic lies.
 

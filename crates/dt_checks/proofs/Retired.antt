@@ -1,5 +1,5 @@
 -- What holds of a plan that the check of its kind lets through.
-use Rattle.std.proofs.Common.{◌≡◌, ℕ, Bool, true, false, Option, Some, None, Ok, Err, Result, IsSomeAnd, IfOk, IsTrue, refl, sym, ap, subst, eqb-true, arith}
+use Rattle.std.proofs.Common.{◌≡◌, ℕ, Bool, true, false, Option, Some, None, Ok, Err, Result, IfOk, IsTrue, refl, sym, ap, subst, eqb-true}
 use Rattle.std.specs.Option.{option_map_or}
 use Rattle.dt_reference.proofs.Retiring.{some_and}
 use Rattle.dt_decode.specs.declared.instructions.Instr.{Instr}

@@ -1,6 +1,6 @@
 use Rattle.std.proofs.Common.{◌≡◌, ◌==◌, ◌&&◌, Bool, true, false, not, cond, List, [], ◌∷◌, filter, refl, sym, ap, ◌∙◌, inl, inr, eq-eqb}
 use Rattle.std.specs.List.{list_all}
-use Rattle.std.proofs.lemmas.Bool.{and_parts, and_from, cases_Bool, cond-true, cond-false, not-true, not_from_false, both_ways}
+use Rattle.std.proofs.lemmas.Bool.{and_parts, and_from, cases_Bool, cond-true, not-true, not_from_false, both_ways}
 use Rattle.dt_record.proofs.Inserting.{insert-later}
 use Rattle.dt_lists.proofs.Lists.{filter-kept, filter-dropped}
 use Rattle.dt_record.specs.declared.keys.Key.{Key}

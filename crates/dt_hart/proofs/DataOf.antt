@@ -20,7 +20,7 @@ use Rattle.dt_reference.specs.Run.{start_of}
 use Rattle.dt_step.specs.declared.plans.Planned.{Planned}
 use Rattle.dt_step.specs.declared.plans.Planned.TheVariants.{Done, NeedsLoad, NeedsStore, NeedsAtomic, Csr, Returns, Fences, FenceI, FencesPages, Raises}
 use Rattle.dt_windows.specs.Fences.{covers_all, covers_page, last_fence}
-use Rattle.dt_windows.specs.Kept.{WindowsView, FencesStand, ArePages, later_of, page_key}
+use Rattle.dt_windows.specs.Kept.{WindowsView, FencesStand, ArePages, later_of}
 use Rattle.dt_hart.specs.Fences.{fences_of}
 use Rattle.dt_hart.specs.HartView.{HartView}
 use Rattle.dt_hart.specs.HartData.{AreListed, HasArch, HasData, IsWithin, page_pair, is_later, kept_values, number_of, number_within, own_number}
@@ -30,7 +30,7 @@ use Rattle.dt_sources.specs.Knowing.{Knows}
 use Rattle.dt_step.specs.declared.state.Arch.{Arch}
 use Rattle.dt_step.specs.State.{IsArch, IsReachable}
 use Rattle.dt_hart.proofs.KeptValues.{at, kept_all, kept_each, kept_lookup, kept_sorted}
-use Rattle.dt_hart.proofs.LastFences.{IsKeyAt, IsNoEarlier, last_at, last_no_earlier}
+use Rattle.dt_hart.proofs.LastFences.{IsNoEarlier, last_at, last_no_earlier}
 
 -- What the numbers of a hart's fences say of them.
 

@@ -1,7 +1,7 @@
-use Rattle.std.proofs.Common.{ℕ, ◌≡◌, ◌+◌, ◌<◌, ◌≤◌, ◌/◌, ◌==◌, Bool, true, false, Option, None, Some, List, [], ◌∷◌, map, length, zero, suc, refl, sym, ap, ◌∙◌, subst, IsTrue, arith}
+use Rattle.std.proofs.Common.{ℕ, ◌≡◌, ◌<◌, ◌≤◌, ◌/◌, ◌==◌, Bool, true, Option, None, Some, List, map, suc, refl, sym, ap, ◌∙◌, subst, arith}
 use Rattle.std.specs.Prelude.{if◌then◌else◌, IfSome}
-use Rattle.std.specs.List.{All, list_all, slice_get}
-use Rattle.std.specs.Map.{lookup, keys_of}
+use Rattle.std.specs.List.{slice_get}
+use Rattle.std.specs.Map.{lookup}
 use Rattle.std.specs.Option.{option_and_then, option_map, unwrap_or}
 use Rattle.std.proofs.lemmas.Bool.{eqb-true}
 use Rattle.std.proofs.lemmas.Bool.Decides.{nat_tests}
@@ -10,9 +10,9 @@ use Rattle.std.proofs.lemmas.Map.Entries.{All-lookup}
 use Rattle.dt_record.specs.declared.keys.Key.{Key}
 use Rattle.dt_record.specs.declared.records.Record.{Record}
 use Rattle.dt_record.specs.declared.states.HartState.{HartState}
-use Rattle.dt_record.specs.Keys.{KeyBelow, key_below, key_of}
-use Rattle.dt_local.specs.LocalMemory.{LocalMemory, local_memory, newest_of, pair_of}
-use Rattle.dt_reference.specs.Run.{start_of, state_after}
+use Rattle.dt_record.specs.Keys.{KeyBelow, key_of}
+use Rattle.dt_local.specs.LocalMemory.{LocalMemory, newest_of, pair_of}
+use Rattle.dt_reference.specs.Run.{start_of}
 use Rattle.dt_sources.specs.Knowing.{IsGreatest, IsKnownKey}
 use Rattle.dt_step.specs.declared.plans.Planned.{Planned}
 use Rattle.dt_step.specs.declared.state.Arch.{Arch}
@@ -20,11 +20,10 @@ use Rattle.dt_windows.specs.Fences.{covers_all, covers_page, is_instruction_fenc
 use Rattle.dt_stores.specs.Kept.{Kept}
 use Rattle.dt_stores.specs.Standing.{StoresStand}
 use Rattle.dt_windows.specs.Kept.{FencesStand, WindowsView, later_of, windows_view}
-use Rattle.dt_hart.specs.declared.accesses.Accesses.{Accesses}
 use Rattle.dt_hart.specs.declared.replays.Replayed.{Replayed}
 use Rattle.dt_hart.specs.Fences.{fences_of}
 use Rattle.dt_hart.specs.Fronts.{IsLegal}
-use Rattle.dt_hart.specs.HartData.{HasArch, HasData, kept_values, number_of, page_number, page_pair}
+use Rattle.dt_hart.specs.HartData.{HasArch, HasData, kept_values, number_of, page_pair}
 use Rattle.dt_hart.specs.HartView.{HartView}
 use Rattle.dt_hart.specs.OwnWrites.{are_of, are_rising}
 use Rattle.dt_hart.specs.Replaying.{IsReplayed, numbered_key}

@@ -1,5 +1,4 @@
-use Rattle.std.proofs.Common.{ℕ, ◌≡◌, ◌+◌, ◌<◌, ◌≤◌, ◌%◌, Bool, true, false, Option, None, Some, List, [], ◌∷◌, ◌++◌, length, max, get_or, take, drop, refl, sym, ap, ◌∙◌, subst, IsTrue, arith}
-use Rattle.std.specs.List.{list_all, slice_get}
+use Rattle.std.proofs.Common.{ℕ, ◌≡◌, ◌+◌, ◌<◌, Bool, true, false, Option, None, Some, List, [], ◌∷◌, ◌++◌, length, max, get_or, take, drop, refl, sym, ap, ◌∙◌, subst, IsTrue, arith}
 use Rattle.std.specs.Option.{option_map_or, option_or, option_to_list}
 use Rattle.std.specs.Prelude.{if◌then◌else◌}
 use Rattle.std.proofs.lemmas.List.{drop_more, length-append, take-append-drop, take-append-le, take_all}
@@ -14,10 +13,9 @@ use Rattle.dt_record.specs.declared.records.Body.{Body}
 use Rattle.dt_record.specs.declared.records.Body.TheVariants.{Commit, Trap, Regs, Csrs, Load, Store, Atomic, Drain, Refill, Beat}
 use Rattle.dt_record.specs.Actions.{Action, last_read}
 use Rattle.dt_record.specs.Keys.{key_of}
-use Rattle.dt_reference.specs.HartActions.{action_of, actions_of, body_action}
+use Rattle.dt_reference.specs.HartActions.{action_of, actions_of}
 use Rattle.dt_reference.specs.Meaning.{meaning_of}
 use Rattle.dt_reference.specs.Run.{state_from}
-use Rattle.dt_step.specs.declared.plans.Planned.{Planned}
 use Rattle.dt_step.specs.declared.plans.Planned.TheVariants.{FencesPages, Raises}
 use Rattle.dt_step.specs.declared.state.Arch.{Arch}
 use Rattle.dt_step.specs.Causes.{due_cause, due_tval}
@@ -25,16 +23,15 @@ use Rattle.dt_step.specs.State.{register}
 use Rattle.dt_stores.specs.GoingOn.{AreDrainedBelow}
 use Rattle.dt_stores.specs.Kept.{Kept, without_past}
 use Rattle.dt_stores.specs.Standing.{StoresStand}
-use Rattle.dt_windows.specs.Fences.{Fence, is_instruction_fence, last_fence}
+use Rattle.dt_windows.specs.Fences.{is_instruction_fence, last_fence}
 use Rattle.dt_hart.specs.declared.accesses.Accesses.{Accesses}
 use Rattle.dt_hart.specs.declared.replays.Replayed.{Replayed}
-use Rattle.dt_hart.specs.Counting.{IsCounted, key_after}
+use Rattle.dt_hart.specs.Counting.{IsCounted}
 use Rattle.dt_hart.specs.Fences.{fence_by, fence_in, fence_plan, fences_from}
 use Rattle.dt_hart.specs.Following.{Follows}
 use Rattle.dt_hart.specs.Fronts.{AreDrained, ArePlaced}
 use Rattle.dt_hart.specs.Replaying.{IsReplayed, Replays, ReplaysOn, is_fence_i, means_fence_i}
 use Rattle.dt_hart.specs.Reserving.{reserved_by, reserved_in}
-use Rattle.dt_hart.specs.Settings.{last_stamp}
 use Rattle.dt_hart.specs.Taking.{IsDrained, is_placed}
 use Rattle.dt_hart.proofs.FencesOn.{fences_from-snoc, reserved_from-snoc}
 use Rattle.dt_hart.proofs.Floors.{last_read_after}

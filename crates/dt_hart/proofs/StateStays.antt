@@ -1,4 +1,4 @@
-use Rattle.std.proofs.Common.{ℕ, ◌≡◌, ◌==◌, Bool, true, false, Option, Some, None, List, [], ◌∷◌, refl, sym, ◌∙◌}
+use Rattle.std.proofs.Common.{ℕ, ◌≡◌, ◌==◌, Bool, true, false, Option, Some, None, List, [], ◌∷◌, refl, ◌∙◌}
 use Rattle.std.specs.Prelude.{if◌then◌else◌}
 use Rattle.std.specs.Option.{option_map_or}
 use Rattle.dt_csr.specs.declared.access.CsrRead.{CsrRead}
@@ -8,7 +8,7 @@ use Rattle.dt_csr.specs.declared.registers.Register.TheVariants.{Mstatus, Misa, 
 use Rattle.dt_csr.specs.declared.state.Csrs.{Csrs}
 use Rattle.dt_csr.specs.declared.modes.TheConstants.{SUPERVISOR}
 use Rattle.dt_csr.specs.Access.{read_of, with_floor, with_kept, write_of, reached_by_write, written}
-use Rattle.dt_csr.specs.Traps.{entered, entered_s, entered_m, trap_mode}
+use Rattle.dt_csr.specs.Traps.{trap_mode}
 use Rattle.dt_decode.specs.declared.instructions.Instr.{Instr}
 use Rattle.dt_decode.specs.declared.instructions.Instr.TheVariants.{Lui, Auipc, Jal, Jalr, Branch, Load as LoadOf, Store as StoreOf, AluImm, Alu, Fence, FenceI, Lr, Sc, Amo, Csr, Ecall, Ebreak, Sret, Mret, Wfi, SfenceVma}
 use Rattle.dt_decode.specs.declared.instructions.CsrOp.{CsrOp}

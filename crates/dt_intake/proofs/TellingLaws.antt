@@ -3,7 +3,7 @@ use Rattle.std.specs.Prelude.{◌≢◌, IsTrue, option_map, option_to_list}
 use Rattle.std.specs.List.{slice_get, list_all}
 use Rattle.std.proofs.lemmas.Bool.{and_parts, both_ways, cases_Bool, ne_eqb}
 use Rattle.std.proofs.lemmas.List.{append_assoc, append-nil, take_all, take-append-drop, take-append-le}
-use Rattle.std.proofs.lemmas.List.Elements.{filter-append, filter_map-append}
+use Rattle.std.proofs.lemmas.List.Elements.{filter-append}
 use mathlib.Core.List.{IsPrefix}
 use Rattle.dt_core.proofs.Telling.{announced-push}
 use Rattle.dt_lists.proofs.Lists.{filter-all, filter-kept, filter-dropped, list_all-drop, not_last}

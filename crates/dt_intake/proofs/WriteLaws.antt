@@ -1,20 +1,17 @@
-use Rattle.std.proofs.Common.{ℕ, ◌≡◌, ◌+◌, ◌≤◌, ◌<◌, ◌==◌, Bool, true, false, suc, Option, Some, None, List, [], ◌∷◌, ◌++◌, length, get_or, map, take, drop, nat_lt, nat_le, refl, sym, ap, ◌∙◌, arith, eq-eqb, eqb-true}
+use Rattle.std.proofs.Common.{ℕ, ◌≡◌, ◌+◌, ◌≤◌, ◌<◌, ◌==◌, true, false, suc, Option, Some, None, List, [], ◌∷◌, ◌++◌, length, get_or, map, take, drop, nat_lt, nat_le, refl, sym, ap, ◌∙◌, arith, eq-eqb, eqb-true}
 use Rattle.std.specs.Prelude.{option_to_list}
 use Rattle.std.specs.List.{list_all}
-use Rattle.std.proofs.lemmas.Bool.{and_parts, and_from, cond-true, leb-true, le-ltb}
+use Rattle.std.proofs.lemmas.Bool.{and_parts, cond-true, leb-true, le-ltb}
 use Rattle.std.proofs.lemmas.List.{append_assoc, append-nil, length-take-le, map-append, take_more, take-append-drop}
 use mathlib.Core.List.{IsPrefix}
-use Rattle.dt_writes.proofs.WritesOfRecords.{key-body_write, key-write_of_record, list_all-step}
+use Rattle.dt_writes.proofs.WritesOfRecords.{key-write_of_record, list_all-step}
 use Rattle.dt_lists.proofs.Lists.{filter-dropped}
 use Rattle.dt_record.specs.declared.keys.Key.{Key}
 use Rattle.dt_record.specs.declared.records.Record.{Record}
-use Rattle.dt_record.specs.declared.records.Body.{Body}
-use Rattle.dt_record.specs.declared.records.Body.TheVariants.{Commit, Trap, Regs, Csrs, Load, Store, Atomic, Drain, Refill, Beat}
 use Rattle.dt_record.specs.declared.writes.Note.{Note}
 use Rattle.dt_record.specs.declared.writes.Note.TheVariants.{Wrote}
 use Rattle.dt_record.specs.declared.writes.Write.{Write}
-use Rattle.dt_record.specs.Keys.{key_of}
-use Rattle.dt_record.specs.Writes.{body_write, write_of_record, counted, writes_after}
+use Rattle.dt_record.specs.Writes.{write_of_record, counted, writes_after}
 use Rattle.dt_writes.specs.OwnWrites.{own_writes_from}
 use Rattle.dt_core.specs.Notes.{writes_below}
 use Rattle.dt_core.specs.Sound.{writes_by}

@@ -1,6 +1,6 @@
 -- From the joined harts of a file to their judgement.
-use Rattle.std.proofs.Common.{◌≡◌, ◌≢◌, ◌<◌, ◌≤◌, ◌==◌, ◌+◌, ◌&&◌, ◌||◌, not, ℕ, Bool, true, false, Option, None, is_some, if◌then◌else◌, List, [], length, get_or, take, drop, filter, ◌⊎◌, inl, inr, refl, sym, ap, ◌∙◌, ◌++◌, arith}
-use Rattle.std.specs.Prelude.{All, Any, Contains, IsTrue, count_by}
+use Rattle.std.proofs.Common.{◌≡◌, ◌<◌, ◌≤◌, ◌==◌, ◌+◌, ◌&&◌, ◌||◌, not, ℕ, Bool, true, false, is_some, List, [], length, get_or, take, drop, ◌⊎◌, inl, inr, sym, ap, ◌∙◌, ◌++◌, arith}
+use Rattle.std.specs.Prelude.{Contains, IsTrue}
 use Rattle.std.proofs.lemmas.Bool.{cases_lt}
 use Rattle.std.proofs.lemmas.Bool.Decides.{nat_tests}
 use Rattle.std.proofs.lemmas.List.{append-nil, take-append-drop, take_all}
@@ -14,17 +14,17 @@ use Rattle.dt_record.specs.ProbeFile.{AreRecords, no_stamps}
 use Rattle.dt_record.specs.Writes.{writes_of}
 use Rattle.dt_intake.specs.Intakes.{IntakeView, new_intake, usable_of, is_over, has_news}
 use Rattle.dt_intake.specs.Laws.{FileRecordsAreUsable}
-use Rattle.dt_intake.specs.Told.{own_notes, IsTold}
+use Rattle.dt_intake.specs.Told.{IsTold}
 use Rattle.dt_runs.specs.Laws.{FileRecordsAreOwn}
 use Rattle.dt_lane.specs.declared.ends.HartEnd.{HartEnd}
-use Rattle.dt_lane.specs.Lanes.{LaneView, is_done, is_judged, judged_len, judged_of}
+use Rattle.dt_lane.specs.Lanes.{is_judged, judged_len, judged_of}
 use Rattle.dt_settled.specs.AllWrites.{AreAllWrites}
 use Rattle.dt_shared.proofs.Histories.{prefix_map}
 use Rattle.dt_shared.specs.declared.entries.Entry.{Entry}
 use Rattle.dt_shared.specs.Entries.{notes_in}
 use Rattle.dt_shared.specs.Passes.{PassState}
 use Rattle.dt_writes.specs.FileRecords.{AreFileRecords}
-use Rattle.dt_joined.specs.Ends.{AreEndsOf, AreFew, AreJoinedHarts, HaveAllHarts, IsJoinedHart}
+use Rattle.dt_joined.specs.Ends.{AreJoinedHarts, IsJoinedHart}
 use Rattle.dt_joined.specs.Joined.{AreAccounted, AreJoined, IsJudgedHart, IsToldByOne}
 use Rattle.dt_joined.specs.Laws.{JoinedHartsAreFew, JoinedHartsAreJudged, JoinedWritesMayBeAll, OneTellerIsEnough, UntoldIsNotThere}
 

@@ -1,12 +1,6 @@
-use Rattle.std.proofs.Common.{ℕ, ◌≡◌, ◌+◌, ◌≤◌, Bool, true, not, List, [], ◌∷◌, length, take, drop, zero, suc, refl, IsTrue, inl, inr, arith}
+use Rattle.std.proofs.Common.{◌≡◌, ◌+◌, Bool, List, [], ◌∷◌, take, suc, refl, IsTrue, inl, inr, arith}
 use Rattle.std.specs.List.{list_all, prefix_len}
-use Rattle.std.proofs.lemmas.Bool.{and_parts, cases_Bool}
-use Rattle.std.proofs.lemmas.List.Sums.{prefix_len-le-length}
-use Rattle.dt_lists.proofs.Lists.{list_all-later, within_prefix}
-use Rattle.dt_record.specs.declared.keys.Key.{Key}
-use Rattle.dt_record.specs.declared.writes.Write.{Write}
-use Rattle.dt_record.specs.Visible.{IsVisible, must_see, cannot_see}
-use Rattle.dt_versions.specs.Spans.{AreVisible, last_visible}
+use Rattle.std.proofs.lemmas.Bool.{cases_Bool}
 
 -- The greatest visible moment.
 

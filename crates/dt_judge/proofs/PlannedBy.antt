@@ -1,11 +1,10 @@
-use Rattle.std.proofs.Common.{ℕ, ◌≡◌, ◌≤◌, ◌%◌, ◌==◌, Bool, true, false, Option, Some, None, Result, Ok, Err, IsSomeAnd, if◌then◌else◌, inl, inr, refl, sym, ap, subst, ◌∙◌, eqb-true, arith}
+use Rattle.std.proofs.Common.{ℕ, ◌≡◌, ◌≤◌, ◌%◌, ◌==◌, Bool, true, false, Option, Some, None, Result, Ok, Err, IsSomeAnd, if◌then◌else◌, refl, sym, ap, subst, ◌∙◌, arith}
 use Rattle.std.specs.Prelude.{IfSome, option_and_then}
-use Rattle.dt_checks.proofs.Retired.{checked, passed_plan}
+use Rattle.dt_checks.proofs.Retired.{passed_plan}
 use Rattle.dt_loads.proofs.Lines.{narrow}
-use Rattle.dt_alu.specs.Extend.{IsAccessWidth}
 use Rattle.dt_checks.specs.declared.starting.Started.{Started}
 use Rattle.dt_checks.specs.Fetching.{fetch_check}
-use Rattle.dt_checks.specs.Retiring.{due_tag, meaning_check, plan_check, raised, retire_check}
+use Rattle.dt_checks.specs.Retiring.{due_tag, meaning_check, retire_check}
 use Rattle.dt_checks.specs.Starting.{fetched_check, started_check}
 use Rattle.dt_decode.specs.declared.instructions.Instr.{Instr}
 use Rattle.dt_decode.specs.declared.instructions.Instr.TheVariants.{Load, Store}
@@ -17,7 +16,6 @@ use Rattle.dt_reference.specs.Meaning.{meaning_of}
 use Rattle.dt_rules.specs.declared.misfits.Misfit.{Misfit}
 use Rattle.dt_rules.specs.Checks.{and_then, check, misfit}
 use Rattle.dt_step.specs.declared.plans.Planned.{Planned}
-use Rattle.dt_step.specs.declared.plans.Planned.TheVariants.{Done, NeedsLoad, NeedsStore, NeedsAtomic, Csr, Returns, Fences, FenceI, FencesPages, Raises}
 use Rattle.dt_step.specs.declared.state.Arch.{Arch}
 use Rattle.dt_step.specs.Plans.{plan_of}
 use Rattle.dt_judge.specs.Grounds.{Grounds}

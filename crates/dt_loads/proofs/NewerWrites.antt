@@ -1,6 +1,5 @@
-use Rattle.std.proofs.Common.{ℕ, ◌≡◌, ◌+◌, ◌↔◌, false, Option, Some, None, List, IsTrue, refl, sym, ap, subst, ◌∙◌, arith}
+use Rattle.std.proofs.Common.{ℕ, ◌≡◌, ◌+◌, ◌↔◌, Option, Some, None, List, IsTrue, refl, sym, ap, subst, ◌∙◌}
 use Rattle.std.proofs.lemmas.Bool.{false≢true}
-use Rattle.std.proofs.lemmas.Bool.Decides.{nat_tests}
 use Rattle.dt_record.proofs.KeyChains.{below-chain}
 use Rattle.dt_record.specs.declared.keys.Key.{Key}
 use Rattle.dt_record.specs.declared.writes.Write.{Write}
@@ -8,7 +7,7 @@ use Rattle.dt_record.specs.declared.accesses.LoadAsk.{LoadAsk}
 use Rattle.dt_record.specs.declared.origins.Origin.{Origin}
 use Rattle.dt_record.specs.declared.origins.Origin.TheVariants as origin
 use Rattle.dt_record.specs.declared.origins.Sources.{Sources}
-use Rattle.dt_record.specs.Keys.{key_below, KeyBelow}
+use Rattle.dt_record.specs.Keys.{KeyBelow}
 use Rattle.dt_record.specs.Actions.{Action}
 use Rattle.dt_record.specs.LoadSources.{origin_of}
 use Rattle.dt_local.specs.LocalMemory.{LocalMemory, newest_of}

@@ -1,5 +1,5 @@
 -- The ends of workers, one for each.
-use Rattle.std.proofs.Common.{◌≡◌, ◌<◌, ◌+◌, ℕ, zero, suc, List, [], ◌∷◌, length, get_or, refl, ap, arith}
+use Rattle.std.proofs.Common.{◌≡◌, ◌<◌, ℕ, zero, suc, List, [], ◌∷◌, length, get_or, refl, ap, arith}
 use Rattle.dt_worker.specs.declared.ends.WorkerEnd.{WorkerEnd}
 use Rattle.dt_worker.specs.Ends.{IsWorkerEnd}
 use Rattle.dt_worker.specs.Workers.{WorkerView}

@@ -1,12 +1,12 @@
 -- The queues of the first harts, in the hands of the workers.
-use Rattle.std.proofs.Common.{◌≡◌, ◌≢◌, ◌<◌, ◌≤◌, ◌+◌, ◌%◌, ℕ, List, [], ◌∷◌, ◌++◌, length, get_or, refl, sym, ap, ◌∙◌, subst, inl, inr, arith, length-append}
+use Rattle.std.proofs.Common.{◌≡◌, ◌≢◌, ◌<◌, ◌+◌, ◌%◌, ℕ, List, [], ◌∷◌, ◌++◌, length, get_or, refl, sym, ap, ◌∙◌, subst, inl, inr, arith, length-append}
 use Rattle.std.specs.Prelude.{All, Any}
 use Rattle.std.proofs.lemmas.Bool.{cases_eq, cases_lt}
 use Rattle.std.proofs.lemmas.List.{get_or_append_left, get_or_push, length_push}
 use Rattle.std.proofs.lemmas.List.Elements.{All-nil, All-push, All-weaker}
 use Rattle.dt_queue.specs.declared.ends.Feed.{Feed}
 use Rattle.dt_queue.specs.declared.ends.Take.{Take}
-use Rattle.dt_queue.specs.Queue.{ArePair, fed, feed_queue, taken, take_queue}
+use Rattle.dt_queue.specs.Queue.{ArePair, fed, feed_queue, taken}
 use Rattle.dt_worker.specs.Workers.{AreOfDifferentHarts}
 use Rattle.dt_pool.specs.Opening.{AreHands, Hand, IsGiven, IsHand, IsHanded}
 

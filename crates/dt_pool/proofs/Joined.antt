@@ -1,18 +1,16 @@
 -- From what the threads of a run left to the joined harts of its file.
-use Rattle.std.proofs.Common.{◌≡◌, ◌≢◌, ◌<◌, ◌≤◌, ◌+◌, ◌%◌, ◌&&◌, ◌==◌, ◌||◌, not, ℕ, zero, suc, Bool, true, false, Option, List, [], ◌∷◌, ◌++◌, length, get_or, map, refl, sym, ap, ◌∙◌, subst, inl, inr, arith, length-append}
+use Rattle.std.proofs.Common.{◌≡◌, ◌≢◌, ◌<◌, ◌≤◌, ◌+◌, ◌%◌, ◌&&◌, not, ℕ, zero, suc, Bool, true, false, Option, List, [], ◌∷◌, ◌++◌, length, get_or, map, refl, sym, ap, ◌∙◌, subst, arith, length-append}
 use Rattle.std.specs.Prelude.{All, Any, Contains, IsTrue}
 use Rattle.std.specs.List.{flat_map}
-use Rattle.std.proofs.lemmas.Bool.{cases_eq}
-use Rattle.std.proofs.lemmas.List.{append-nil, get_or-append-add, get_or-map, get_or_append_left, get_or_default, length-map}
+use Rattle.std.proofs.lemmas.List.{get_or-append-add, get_or-map, get_or_append_left, get_or_default, length-map}
 use Rattle.std.proofs.Math.Nat.{mod-lt}
-use Rattle.std.proofs.lemmas.List.Elements.{All-append, All-cons, All-map, All-nil, All-push, Contains-append_left}
+use Rattle.std.proofs.lemmas.List.Elements.{All-append, All-map, All-nil, All-push, Contains-append_left}
 use Rattle.atomic_table.specs.Seated.{TableId}
 use Rattle.dt_record.specs.declared.records.Record.{Record}
 use Rattle.dt_record.specs.declared.streams.Next.{Next}
 use Rattle.dt_record.specs.declared.writes.Write.{Write}
-use Rattle.dt_record.specs.Keys.{records_of}
 use Rattle.dt_record.specs.Streams.{Progress}
-use Rattle.dt_intake.specs.Intakes.{is_over, has_news}
+use Rattle.dt_intake.specs.Intakes.{has_news}
 use Rattle.dt_intake.specs.Told.{own_notes, IsTold}
 use Rattle.dt_queue.specs.declared.ends.Feed.{Feed}
 use Rattle.dt_reading.specs.Reading.{HasCome}
@@ -21,7 +19,6 @@ use Rattle.dt_queue.specs.Queue.{fed, feed_queue, taken, take_queue}
 use Rattle.dt_runs.specs.RunView.{outcome_in}
 use Rattle.dt_feed.specs.declared.feeding.FeedEnd.TheVariants.{Whole}
 use Rattle.dt_feed.specs.Ends.{ArePoppedOf, PoppedEndMeansAll}
-use Rattle.dt_feed.specs.Feeding.{IsFeeding}
 use Rattle.dt_lane.specs.declared.ends.HartEnd.{HartEnd}
 use Rattle.dt_lane.specs.Lanes.{IsJudgedBy, IsLane, IsPopped, LaneView, is_done, is_judged}
 use Rattle.dt_settled.specs.AllWrites.{AreAllWrites}

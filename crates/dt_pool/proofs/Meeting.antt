@@ -1,12 +1,11 @@
 -- Queues whose ends are brought together.
-use Rattle.std.proofs.Common.{◌≡◌, ◌<◌, ◌≤◌, ℕ, List, ◌++◌, length, get_or, set, refl, sym, ap, ◌∙◌, subst, inl, inr, arith, get_or-set_other, get_or-set_same}
+use Rattle.std.proofs.Common.{◌≡◌, ◌<◌, ℕ, List, ◌++◌, length, get_or, set, refl, sym, ap, ◌∙◌, subst, inl, inr, arith, get_or-set_other, get_or-set_same}
 use Rattle.std.proofs.lemmas.Bool.{cases_eq}
-use Rattle.std.proofs.lemmas.List.{get_or_default}
 use Rattle.std.proofs.Math.ListN.{length-set}
 use Rattle.dt_record.specs.declared.records.Record.{Record}
 use Rattle.dt_queue.specs.declared.ends.Feed.{Feed}
 use Rattle.dt_queue.specs.declared.ends.Take.{Take}
-use Rattle.dt_queue.specs.Queue.{fed, feed_queue, taken, take_queue}
+use Rattle.dt_queue.specs.Queue.{fed, feed_queue, taken}
 use Rattle.dt_pool.specs.Joining.{AreSameFeeds, IsMet, IsPaired}
 
 pub same_feeds : (feeds : List Feed) → AreSameFeeds feeds feeds

@@ -1,6 +1,6 @@
 use Rattle.std.proofs.Common.{◌≡◌, ◌&&◌, Bool, true, false, not, cond, List, [], ◌∷◌, ◌++◌, filter, refl, sym, ap, ◌∙◌, inl, inr}
 use Rattle.std.specs.List.{list_all}
-use Rattle.std.proofs.lemmas.Bool.{and_parts, and_from, cases_Bool, cond-true, cond-false, not-true, not_from_false, both_ways, or_cases}
+use Rattle.std.proofs.lemmas.Bool.{and_parts, and_from, cases_Bool, not-true, not_from_false, both_ways, or_cases}
 use Rattle.dt_record.proofs.Inserting.{insert-first, insert-later}
 use Rattle.dt_lists.proofs.Lists.{list_all-weaker, list_all-filter}
 use Rattle.dt_record.specs.declared.keys.Key.{Key}

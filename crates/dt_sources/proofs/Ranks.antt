@@ -1,8 +1,6 @@
-use Rattle.std.proofs.Common.{◌≡◌, false, Option, Some, None, List, refl, arith}
-use Rattle.std.proofs.lemmas.Bool.Decides.{nat_tests}
+use Rattle.std.proofs.Common.{◌≡◌, false, Option, Some, None, List, refl}
 use Rattle.dt_record.proofs.KeyChains.{key_not_below-chain}
 use Rattle.dt_record.specs.declared.keys.Key.{Key}
-use Rattle.dt_record.specs.Keys.{key_below}
 use Rattle.dt_record.proofs.KeyLaws.{key_below-itself}
 use Rattle.dt_record.specs.Actions.{Action}
 use Rattle.dt_record.specs.LoadSources.{Rank, Lowest, At, Highest, rank, rank_below, origin_of_key}

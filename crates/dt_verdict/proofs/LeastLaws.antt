@@ -4,10 +4,8 @@ use Rattle.std.specs.Prelude.{Contains, All, find, if◌then◌else◌}
 use Rattle.std.specs.List.{list_all, cons_option}
 use Rattle.std.proofs.lemmas.List.{append-nil, take_more, take_all}
 use Rattle.std.proofs.lemmas.List.Elements.{All-nil, All-cons, All-head, All-tail, All-append, All-push, All-weaker, Contains-append_right, filter_map-append}
-use Rattle.std.proofs.lemmas.Bool.Decides.{nat_tests}
 use Rattle.std.proofs.lemmas.List.Folds.{list_all_at}
 use Rattle.dt_record.proofs.KeyChains.{below-not_above}
-use Rattle.dt_record.specs.declared.keys.Key.{Key}
 use Rattle.dt_record.specs.Keys.{key_below, KeyBelow}
 use Rattle.dt_record.proofs.KeyLaws.{KeyBelow-chain, key_below-itself, key_below-back}
 use Rattle.dt_verdict.specs.declared.verdicts.Failure.{Failure}

@@ -1,4 +1,3 @@
-use Rattle.std.proofs.Common.{ℕ, ◌≡◌, ◌==◌, ◌+◌, ◌≤◌, ◌%◌, length, get_or, map, arith}
 use Rattle.dt_record.specs.declared.states.KnownByte.{KnownByte}
 use Rattle.dt_hart.proofs.KnownBytes.{known_in_ram, known_next}
 use Rattle.dt_hart.proofs.known.local_of.Goals as goal

@@ -1,7 +1,6 @@
-use Rattle.std.proofs.Common.{ℕ, ◌++◌, ap, sym, ◌∙◌, List, take, arith}
-use Rattle.std.proofs.lemmas.List.{take_all}
+use Rattle.std.proofs.Common.{ℕ, arith}
 use Rattle.dt_record.specs.declared.keys.Key.{Key}
-use Rattle.dt_hart.specs.HartData.{kept_value, kept_values, own_number}
+use Rattle.dt_hart.specs.HartData.{own_number}
 use Rattle.dt_hart.proofs.KeptValues.{kept_more}
 use Rattle.dt_hart.proofs.pages.marks_of.Goals as goal
 

@@ -1,9 +1,7 @@
-use Rattle.std.proofs.Common.{ℕ, ◌++◌, ap, sym, ◌∙◌, List, map, take, length, get_or, arith}
-use Rattle.std.proofs.lemmas.List.{take_all, map_more}
-use Rattle.std.proofs.lemmas.List.Elements.{filter_map-append}
+use Rattle.std.proofs.Common.{ap, map, take, get_or, arith}
+use Rattle.std.proofs.lemmas.List.{map_more}
 use Rattle.dt_record.specs.declared.states.PageMark.{PageMark}
-use Rattle.dt_record.specs.declared.keys.Key.{Key}
-use Rattle.dt_hart.specs.HartData.{kept_value, kept_values, page_pair}
+use Rattle.dt_hart.specs.HartData.{kept_values, page_pair}
 use Rattle.dt_hart.specs.Replaying.{numbered_key}
 use Rattle.dt_hart.proofs.KeptValues.{kept_snoc}
 use Rattle.dt_hart.proofs.pages.own_fences.Goals as goal

@@ -1,5 +1,5 @@
-use Rattle.std.proofs.Common.{ℕ, ◌≡◌, ◌+◌, ◌==◌, ◌≤◌, ◌∷◌, ◌++◌, List, length, get_or, take, drop, sym, ap, ◌∙◌, subst, IsTrue, arith}
-use Rattle.std.proofs.lemmas.List.{length-take, take_all, take_more}
+use Rattle.std.proofs.Common.{◌+◌, ◌==◌, List, get_or, take, drop, sym, subst, IsTrue, arith}
+use Rattle.std.proofs.lemmas.List.{length-take, take_more}
 use Rattle.std.proofs.lemmas.Bool.{eqb-true}
 use Rattle.dt_lists.proofs.Lists.{list_all-at}
 use Rattle.dt_record.specs.declared.records.Record.{Record}

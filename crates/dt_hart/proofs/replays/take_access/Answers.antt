@@ -1,7 +1,6 @@
-use Rattle.std.proofs.Common.{Some, [], refl, sym, ap, ◌∙◌}
+use Rattle.std.proofs.Common.{[], refl, sym, ◌∙◌}
 use Rattle.dt_record.specs.Actions.{Fenced}
 use Rattle.dt_record.specs.Keys.{key_of}
-use Rattle.dt_step.specs.declared.plans.Planned.{Planned}
 use Rattle.dt_hart.proofs.Counted.{counts_gained, counts_same, fences_fit}
 use Rattle.dt_hart.proofs.EffectLaws.{page_accesses}
 use Rattle.dt_hart.proofs.ReplayedOn.{from_follows}

@@ -1,4 +1,4 @@
-use Rattle.std.proofs.Common.{ℕ, ◌≡◌, ◌∷◌, ◌∙◌, List, length, drop, length-drop, ap, arith}
+use Rattle.std.proofs.Common.{ℕ, ◌≡◌, ◌∷◌, ◌∙◌, List, drop, length-drop, ap, arith}
 use Rattle.std.proofs.lemmas.List.{take_all}
 use Rattle.dt_hart.proofs.Registers.{first_and_rest}
 use Rattle.dt_hart.proofs.states.named_registers.Goals as goal

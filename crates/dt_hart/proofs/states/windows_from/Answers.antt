@@ -1,5 +1,4 @@
-use Rattle.std.proofs.Common.{ℕ, List, map, nat_lt, ◌^◌, subst, sym, ap, ◌∙◌}
-use Rattle.dt_record.specs.declared.keys.Key.{Key}
+use Rattle.std.proofs.Common.{List, map, nat_lt, ◌^◌, subst, sym, ap, ◌∙◌}
 use Rattle.dt_record.specs.declared.states.PageMark.{PageMark}
 use Rattle.dt_windows.specs.Kept.{ArePages}
 use Rattle.dt_hart.specs.HartData.{kept_values, page_pair}

@@ -5,7 +5,6 @@ use Rattle.dt_reading.specs.Reading.{with_header}
 use Rattle.dt_reading.proofs.Underway.{accepted}
 use Rattle.dt_shared.specs.Records.{identity}
 use Rattle.dt_pass.specs.Checked.{IsCheckOf}
-use Rattle.dt_worker.specs.declared.ends.WorkerEnd.{WorkerEnd}
 use Rattle.dt_worker.specs.Workers.{WorkerView}
 use Rattle.dt_pool.specs.Joining.{HaveRun}
 use Rattle.dt_pool.specs.Starting.{AreEnds}

@@ -1,15 +1,8 @@
-use Rattle.std.proofs.Common.{◌≡◌, ◌++◌, ◌∷◌, [], ℕ, Bool, Option, List, refl, sym, ap, ◌∙◌, subst}
-use Rattle.std.specs.List.{flat_map}
+use Rattle.std.proofs.Common.{◌≡◌, ◌++◌, ◌∷◌, [], List, ap, ◌∙◌}
 use Rattle.std.proofs.lemmas.List.Elements.{All-same}
 use Rattle.std.proofs.lemmas.Result.{IfOk-weaker}
-use Rattle.dt_record.specs.declared.streams.Next.{Next}
-use Rattle.dt_record.specs.Streams.{Progress}
-use Rattle.dt_lane.specs.declared.ends.HartEnd.{HartEnd}
 use Rattle.dt_shared.specs.Passes.{PassState}
 use Rattle.dt_shared.specs.Records.{identity}
-use Rattle.dt_joined.specs.Ends.{AreJoinedHarts}
-use Rattle.dt_worker.specs.declared.ends.WorkerEnd.{WorkerEnd}
-use Rattle.dt_pool.specs.Joining.{HaveRun}
 use Rattle.dt_pool.proofs.Joined.{all_of_this, all_passes, came_of, gathered_harts, paired}
 use Rattle.dt_pool.proofs.joining.answer.Goals as goal
 

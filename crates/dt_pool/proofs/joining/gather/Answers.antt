@@ -1,4 +1,4 @@
-use Rattle.std.proofs.Common.{◌≡◌, ℕ, Bool, true, false, not, ◌||◌, List, [], ◌∷◌, ◌++◌, map, get_or, ap, refl, sym, ◌∙◌, append_assoc}
+use Rattle.std.proofs.Common.{◌≡◌, Bool, true, false, not, ◌||◌, List, [], ◌∷◌, ◌++◌, map, get_or, ap, refl, sym, ◌∙◌, append_assoc}
 use Rattle.std.specs.Prelude.{All}
 use Rattle.std.specs.List.{flat_map}
 use Rattle.std.specs.Vec.Iter.{into_iter_items}
@@ -8,7 +8,7 @@ use Rattle.dt_shared.specs.Passes.{PassState}
 use Rattle.dt_worker.specs.declared.ends.WorkerEnd.{WorkerEnd}
 use Rattle.dt_worker.specs.Ends.{has_finished}
 use Rattle.dt_pool.specs.Joining.{AreSameFeeds, IsMet, IsPaired}
-use Rattle.dt_pool.proofs.Meeting.{met_before, same_feeds, same_further, still_paired}
+use Rattle.dt_pool.proofs.Meeting.{met_before, same_feeds, same_further}
 use Rattle.dt_pool.proofs.joining.gather.Goals as goal
 
 abbrev pass_of : WorkerEnd → PassState

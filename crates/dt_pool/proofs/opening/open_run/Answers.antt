@@ -1,4 +1,4 @@
-use Rattle.std.proofs.Common.{List, ◌-◌, ◌≡◌, ◌∙◌, ap, refl, take, arith}
+use Rattle.std.proofs.Common.{◌-◌, ◌≡◌, ◌∙◌, ap, refl, take, arith}
 use Rattle.dt_shared.specs.Records.{identity}
 use Rattle.dt_pool.proofs.Making.{first_passes, last_pass}
 use Rattle.dt_pool.proofs.opening.open_run.Goals as goal

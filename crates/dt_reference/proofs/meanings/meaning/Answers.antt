@@ -1,7 +1,6 @@
-use Rattle.std.proofs.Common.{◌≡◌, ◌%◌, ◌==◌, Option, ◌∙◌, ap}
+use Rattle.std.proofs.Common.{◌%◌, ◌∙◌, ap}
 use Rattle.std.specs.Prelude.{Bool, if◌then◌else◌, option_and_then}
 use Rattle.std.proofs.lemmas.Bool.{ne_eqb}
-use Rattle.dt_decode.specs.declared.instructions.Instr.{Instr}
 use Rattle.dt_decode.specs.Table.{instr_of}
 use Rattle.dt_rvc.specs.Table.{expansion}
 use Rattle.dt_reference.proofs.meanings.meaning.Goals as goal

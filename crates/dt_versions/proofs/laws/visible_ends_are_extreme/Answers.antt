@@ -1,4 +1,4 @@
-use Rattle.std.proofs.Common.{ℕ, ◌≤◌, arith}
+use Rattle.std.proofs.Common.{arith}
 use Rattle.dt_versions.proofs.laws.visible_ends_are_extreme.Goals as goal
 use Rattle.dt_versions.specs.Spans.{first_visible, last_visible}
 

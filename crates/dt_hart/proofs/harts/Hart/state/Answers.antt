@@ -1,9 +1,9 @@
-use Rattle.std.proofs.Common.{ℕ, ◌≡◌, ◌≤◌, List, Option, refl, sym, ap, subst, ◌∙◌, arith}
+use Rattle.std.proofs.Common.{ℕ, List, Option, refl, sym, ap, subst, ◌∙◌}
 use Rattle.dt_record.specs.declared.keys.Key.{Key}
-use Rattle.dt_hart.specs.HartData.{IsWithin, HasArch, kept_values, number_within, own_number}
+use Rattle.dt_hart.specs.HartData.{kept_values, number_within, own_number}
 use Rattle.dt_hart.specs.HartView.{HartView}
 use Rattle.dt_hart.specs.Standing.{HartStands}
-use Rattle.dt_hart.proofs.DataOf.{IsStateOf, data_of, within_view}
+use Rattle.dt_hart.proofs.DataOf.{data_of, within_view}
 use Rattle.dt_hart.proofs.GoingOn.{kept}
 use Rattle.dt_hart.proofs.harts.Hart.state.Goals as goal
 
