@@ -1,4 +1,4 @@
-use Rattle.std.proofs.Common.{ℕ, ◌≡◌, ◌==◌, Bool, true, false, Option, Some, None, List, [], ◌∷◌, refl, ◌∙◌}
+use Rattle.std.proofs.Common.{ℕ, ◌≡◌, ◌==◌, Bool, true, false, Option, Some, None, List, [], ◌∷◌, refl, sym, ap, ◌∙◌}
 use Rattle.std.specs.Prelude.{if◌then◌else◌}
 use Rattle.std.specs.Option.{option_map_or}
 use Rattle.dt_csr.specs.declared.access.CsrRead.{CsrRead}
@@ -16,11 +16,14 @@ use Rattle.dt_record.specs.declared.records.Body.{Body}
 use Rattle.dt_record.specs.declared.records.Body.TheVariants.{Commit, Trap, Regs, Csrs as CsrsOf, Load, Store, Atomic, Drain, Refill, Beat}
 use Rattle.dt_record.specs.declared.records.Record.{Record}
 use Rattle.dt_reference.specs.Meaning.{meaning_of}
-use Rattle.dt_reference.specs.Run.{after_body, after_instruction, after_record, answer_to, state_from}
+use Rattle.dt_reference.specs.Run.{after_body, after_instruction, after_record, answer_to, start_of, state_from}
 use Rattle.dt_step.specs.declared.state.Arch.{Arch}
 use Rattle.dt_step.specs.Causes.{writes_csr}
 use Rattle.dt_step.specs.Plans.{csr_operand, plan_of, value_in}
 use Rattle.dt_step.specs.Steps.{after_read, csrs_after, noted, step_of, value_to_write}
+use Rattle.dt_hart.specs.HartView.{HartView}
+use Rattle.dt_hart.specs.Settings.{Setting}
+use Rattle.dt_hart.specs.Standing.{HartStands, IsOfSetting}
 use Rattle.dt_hart.proofs.SameHart.{hart_stays}
 
 -- No record changes whether a hart may use Sv48.
@@ -137,3 +140,11 @@ wide_after a (r ∷ rs) = wide_after (after_record a r) rs ∙ body_same a r.bod
 pub hart_after : (a : Arch) (rs : List Record) → (state_from a rs).hart ≡ a.hart
 hart_after a [] = refl
 hart_after a (r ∷ rs) = hart_after (after_record a r) rs ∙ hart_stays a r.body
+
+-- ---- of what stands for a setting
+
+pub of_its_setting : (h : HartView) (s : Setting) → HartStands h s → IsOfSetting h s
+of_its_setting h s stands = record {
+  number = ap (λ (a : Arch). a.hart) stands.arch ∙ hart_after (start_of s.hart s.wide) s.before;
+  wide = ap (λ (a : Arch). a.csrs.wide) stands.arch ∙ wide_after (start_of s.hart s.wide) s.before;
+}

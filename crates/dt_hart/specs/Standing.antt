@@ -37,6 +37,11 @@ pub record KnowsAt (h : HartView) (s : Setting) (next : Key) : Type 0 where
   pub knows : Knows (local_memory h.keys None) s.writes (did s) s.moments next
   pub judged : AreJudged s.writes (did s) next
 
+-- a hart has its setting's number, and may use Sv48 where its setting says so
+pub record IsOfSetting (h : HartView) (s : Setting) : Type 0 where
+  pub number : h.arch.hart ≡ s.hart
+  pub wide : h.arch.csrs.wide ≡ s.wide
+
 -- The hart goes on by a record with these sources: whatever records it stood for that go on with this one, it stands for
 -- them and the record.
 abbrev pub GoesOnWith : HartView → HartView → Record → Sources → Type 0
@@ -51,3 +56,7 @@ KnowsAtNext = (h : HartView) (s : Setting) (r : Record) → HartStands h s → G
 -- A law: the fences of a hart's records stand before its next record.
 abbrev pub FencesAreEarlier : Type 0
 FencesAreEarlier = (s : Setting) (r : Record) → GoesOn s r → IsTrue (list_all (λ f. key_below f.key (key_in s r)) (fences_of s))
+
+-- A law: no record changes a hart's number, or whether it may use Sv48, so that what stands for a setting has those of it.
+abbrev pub HartsAreOfTheirSettings : Type 0
+HartsAreOfTheirSettings = (h : HartView) (s : Setting) → HartStands h s → IsOfSetting h s

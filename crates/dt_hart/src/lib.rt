@@ -21,6 +21,6 @@ mod tests;
 
 pub use found::Findings;
 pub use harts::Hart;
-pub use laws::{fences_are_earlier, known_at_next};
+pub use laws::{fences_are_earlier, harts_are_of_their_settings, known_at_next};
 pub use marks::{HartMark, marks_go_on};
 pub use places::is_placed;

@@ -15,7 +15,7 @@ use Rattle.dt_local.specs.declared.slots.Slot.{Slot}
 use Rattle.dt_local.specs.LocalMemory.{AreKnownBytes}
 use Rattle.dt_local.specs.Slots.{Entries, key_at, present, word_bytes, known_bytes, is_ram_word}
 use Rattle.dt_local.proofs.Bytes.{run}
-use Rattle.dt_local.proofs.Undoing.{at}
+use Rattle.dt_record.proofs.Undoing.{at}
 
 -- The bytes that have a key, one by one; they stand in order, and lie in RAM.
 

@@ -7,13 +7,14 @@ use Rattle.std.proofs.lemmas.Bool.{false≢true}
 use Rattle.std.proofs.lemmas.Option.{none-some, same_Some}
 use Rattle.std.proofs.lemmas.List.Elements.{All-take, All-drop, All-same}
 use Rattle.dt_record.specs.Lawful.{is_ram_line}
+use Rattle.dt_record.proofs.Undoing.{at, length-earlier_views, earlier_views-at, earlier_views-drop, earlier_views-take}
 use Rattle.dt_local.specs.declared.local.Mark.{Mark}
 use Rattle.dt_local.specs.declared.slots.Slot.{Slot}
 use Rattle.dt_local.specs.declared.steps.Steps.{Steps}
 use Rattle.dt_local.specs.LocalMemory.{Reserved, reserved_at}
 use Rattle.dt_local.specs.Marks.{IsLive, undone, forgotten}
-use Rattle.dt_local.specs.Slots.{Entries, known_bytes, before_steps, past_of, memory_of, AreWords, HasRoom, HaveSlots, HasSpare, IsWidened, IsStepped, IsSound}
-use Rattle.dt_local.proofs.Undoing.{at, have_kept, length-past_of, past_of-at, past_of-drop, past_of-take}
+use Rattle.dt_local.specs.Slots.{Entries, known_bytes, slots_before, before_steps, past_of, memory_of, AreWords, HasRoom, HaveSlots, HasSpare, IsWidened, IsStepped, IsSound}
+use Rattle.dt_local.proofs.Undoing.{have_kept}
 
 -- What a local memory keeps, after each of its calls.
 
@@ -84,7 +85,7 @@ abbrev pub count_to : Steps → Mark → ℕ
 count_to steps m = m.at - steps.from
 
 pub within_steps : (es : Entries) (steps : Steps) (reserved : Option Reserved) (m : Mark) → IsLive (memory_of es steps reserved) m → count_to steps m ≤ length steps.kept.items
-within_steps es steps reserved m live = omega (arith, live.reached, length-past_of es steps.kept.items)
+within_steps es steps reserved m live = omega (arith, live.reached, length-earlier_views slots_before known_bytes es steps.kept.items)
 
 pub IsSound-undone : (old new : BTreeMap ℕ Slot) (before after : Steps) (reserved : Option Reserved) (count : ℕ) → IsSound old before reserved
     → after.keeps ≡ before.keeps → after.from ≡ before.from → after.kept.items ≡ take count before.kept.items → deque_len after.kept ≤ deque_len before.kept
@@ -106,8 +107,8 @@ pub memory_of-undone : (es fs : Entries) (before after : Steps) (reserved : Opti
 memory_of-undone es fs before after reserved m keeps from entries kept =
     let steps = before.kept.items in
     let count = count_to before m in
-    let known = ap known_bytes entries ∙ sym (past_of-at es steps count) in
-    let past = ap (λ gs. past_of gs after.kept.items) entries ∙ ap (past_of (before_steps es (drop count steps))) kept ∙ past_of-take es steps count in
+    let known = ap known_bytes entries ∙ sym (earlier_views-at slots_before known_bytes es steps count) in
+    let past = ap (λ gs. past_of gs after.kept.items) entries ∙ ap (past_of (before_steps es (drop count steps))) kept ∙ earlier_views-take slots_before known_bytes es steps count in
     cc
 
 -- ---- after what came before a mark is forgotten
@@ -133,5 +134,5 @@ IsSound-forgotten slots before after reserved m sound keeps from kept len capaci
 pub memory_of-forgotten : (es : Entries) (before after : Steps) (reserved : Option Reserved) (m : Mark) → after.keeps ≡ before.keeps → after.from ≡ m.at
     → after.kept.items ≡ drop (count_to before m) before.kept.items → memory_of es after reserved ≡ forgotten (memory_of es before reserved) m
 memory_of-forgotten es before after reserved m keeps from kept =
-    let past = ap (past_of es) kept ∙ past_of-drop es before.kept.items (count_to before m) in
+    let past = ap (past_of es) kept ∙ earlier_views-drop slots_before known_bytes es before.kept.items (count_to before m) in
     cc

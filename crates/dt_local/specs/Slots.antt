@@ -1,13 +1,14 @@
-use Rattle.std.specs.Prelude.{ℕ, ◌≡◌, ◌+◌, ◌*◌, ◌/◌, ◌%◌, ◌^◌, ◌<◌, ◌≤◌, ◌==◌, ◌&&◌, Bool, true, false, not, if◌then◌else◌, Option, None, Some, List, [], ◌∷◌, ◌++◌, map, slice_get, option_map, nat_le, nat_lt, IsTrue, IsSome, All}
+use Rattle.std.specs.Prelude.{ℕ, ◌≡◌, ◌+◌, ◌*◌, ◌/◌, ◌%◌, ◌^◌, ◌<◌, ◌≤◌, ◌==◌, ◌&&◌, Bool, true, false, not, if◌then◌else◌, Option, None, Some, List, [], ◌++◌, map, slice_get, option_map, nat_le, nat_lt, IsTrue, IsSome, All}
 use Rattle.std.specs.Int.{bit_at}
 use Rattle.std.specs.Ordering.{nat_cmp}
 use Rattle.std.specs.List.{filter_map, flat_map, range_with_len}
 use Rattle.std.specs.Option.{option_and_then}
-use Rattle.std.specs.Map.{lookup, set_value}
+use Rattle.std.specs.Map.{lookup}
 use Rattle.std.specs.BTreeMap.{BTreeMap, get, is_at, IsOrdered}
 use Rattle.std.specs.VecDeque.{deque_len, deque_capacity}
 use Rattle.dt_record.specs.declared.keys.Key.{Key}
 use Rattle.dt_record.specs.Lawful.{is_ram_line}
+use Rattle.dt_record.specs.Undoing.{earlier_state, earlier_views, put_back}
 use Rattle.dt_local.specs.declared.slots.Slot.{Slot}
 use Rattle.dt_local.specs.declared.steps.Step.{Step}
 use Rattle.dt_local.specs.declared.steps.Steps.{Steps}
@@ -46,15 +47,17 @@ has_word mask place = not (mask / 2 ^ (8 * place) % 256 == 0)
 abbrev pub noted_in : (mask : ℕ) → List Key → (place : ℕ) → Option Key
 noted_in mask keys place = if bit_at mask place == 1 then slice_get keys place else None
 
+-- the slots before a step
+abbrev pub slots_before : Entries → Step → Entries
+slots_before = put_back (λ s. s.word) (λ s. s.slot)
+
 -- the slots before some steps, which are in the order in which they came
 abbrev pub before_steps : Entries → List Step → Entries
-before_steps entries [] = entries
-before_steps entries (s ∷ ss) = set_value (is_at (nat_cmp s.word)) (before_steps entries ss) s.slot
+before_steps entries steps = earlier_state slots_before entries steps
 
 -- the keys before each of some steps
 abbrev pub past_of : Entries → List Step → List (List (ℕ × Key))
-past_of entries [] = []
-past_of entries (s ∷ ss) = known_bytes (before_steps entries (s ∷ ss)) ∷ past_of entries ss
+past_of entries steps = earlier_views slots_before known_bytes entries steps
 
 -- the local memory that slots, and the steps that led to them, stand for
 abbrev pub memory_of : Entries → Steps → Option Reserved → LocalMemory

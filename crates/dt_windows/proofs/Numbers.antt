@@ -13,7 +13,7 @@ use Rattle.std.proofs.lemmas.Map.Keys.{sorted_head, sorted_tail}
 use Rattle.dt_record.specs.declared.keys.Key.{Key}
 use Rattle.dt_windows.specs.Kept.{ArePages}
 use Rattle.dt_windows.specs.Pages.{Entries, present}
-use Rattle.dt_windows.proofs.Undoing.{at}
+use Rattle.dt_record.proofs.Undoing.{at}
 
 -- The numbers of the pages that have a key.
 

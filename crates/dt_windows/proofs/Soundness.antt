@@ -6,11 +6,12 @@ use Rattle.std.specs.VecDeque.{deque_len}
 use Rattle.std.proofs.lemmas.Bool.{false≢true}
 use Rattle.std.proofs.lemmas.List.Elements.{All-take, All-drop, All-same}
 use Rattle.dt_record.specs.declared.keys.Key.{Key}
+use Rattle.dt_record.proofs.Undoing.{at, length-earlier_views, earlier_views-at, earlier_views-drop, earlier_views-take}
 use Rattle.dt_windows.specs.declared.steps.Steps.{Steps}
 use Rattle.dt_windows.specs.declared.windows.Mark.{Mark}
 use Rattle.dt_windows.specs.Marks.{IsLive, undone, forgotten}
-use Rattle.dt_windows.specs.Pages.{Entries, present, before_steps, past_of, windows_of, AreSlots, HaveSlots, HasSpare, IsWidened, IsStepped, IsSound}
-use Rattle.dt_windows.proofs.Undoing.{at, have_kept, length-past_of, past_of-at, past_of-drop, past_of-take}
+use Rattle.dt_windows.specs.Pages.{Entries, present, slots_before, before_steps, past_of, windows_of, AreSlots, HaveSlots, HasSpare, IsWidened, IsStepped, IsSound}
+use Rattle.dt_windows.proofs.Undoing.{have_kept}
 
 -- What is kept of a hart's fences, after each call.
 
@@ -59,7 +60,7 @@ abbrev pub count_to : Steps → Mark → ℕ
 count_to steps m = m.at - steps.from
 
 pub within_steps : (es : Entries) (steps : Steps) (instructions all : Option Key) (m : Mark) → IsLive (windows_of instructions all es steps) m → count_to steps m ≤ length steps.kept.items
-within_steps es steps instructions all m live = omega (arith, live.reached, length-past_of es steps.kept.items)
+within_steps es steps instructions all m live = omega (arith, live.reached, length-earlier_views slots_before present es steps.kept.items)
 
 pub IsSound-undone : (old new : BTreeMap ℕ (Option Key)) (before after : Steps) (count : ℕ) → IsSound old before
     → after.keeps ≡ before.keeps → after.from ≡ before.from → after.kept.items ≡ take count before.kept.items → deque_len after.kept ≤ deque_len before.kept
@@ -78,8 +79,8 @@ pub windows_of-undone : (es fs : Entries) (before after : Steps) (instructions a
 windows_of-undone es fs before after instructions all m keeps from entries kept =
     let steps = before.kept.items in
     let count = count_to before m in
-    let pages = ap present entries ∙ sym (past_of-at es steps count) in
-    let past = ap (λ gs. past_of gs after.kept.items) entries ∙ ap (past_of (before_steps es (drop count steps))) kept ∙ past_of-take es steps count in
+    let pages = ap present entries ∙ sym (earlier_views-at slots_before present es steps count) in
+    let past = ap (λ gs. past_of gs after.kept.items) entries ∙ ap (past_of (before_steps es (drop count steps))) kept ∙ earlier_views-take slots_before present es steps count in
     cc
 
 -- ---- after what came before a mark is forgotten
@@ -99,5 +100,5 @@ IsSound-forgotten slots before after m sound keeps from kept len on later = reco
 pub windows_of-forgotten : (es : Entries) (before after : Steps) (instructions all : Option Key) (m : Mark) → after.keeps ≡ before.keeps → after.from ≡ m.at
     → after.kept.items ≡ drop (count_to before m) before.kept.items → windows_of instructions all es after ≡ forgotten (windows_of instructions all es before) m
 windows_of-forgotten es before after instructions all m keeps from kept =
-    let past = ap (past_of es) kept ∙ past_of-drop es before.kept.items (count_to before m) in
+    let past = ap (past_of es) kept ∙ earlier_views-drop slots_before present es before.kept.items (count_to before m) in
     cc

@@ -1,10 +1,11 @@
-use Rattle.std.specs.Prelude.{ℕ, ◌≡◌, ◌+◌, ◌<◌, ◌≤◌, ◌^◌, true, false, Option, List, [], ◌∷◌, ◌++◌, option_map, IsSome, All}
+use Rattle.std.specs.Prelude.{ℕ, ◌≡◌, ◌+◌, ◌<◌, ◌≤◌, ◌^◌, true, false, Option, List, [], ◌++◌, option_map, IsSome, All}
 use Rattle.std.specs.Ordering.{nat_cmp}
 use Rattle.std.specs.List.{filter_map}
-use Rattle.std.specs.Map.{lookup, set_value}
+use Rattle.std.specs.Map.{lookup}
 use Rattle.std.specs.BTreeMap.{BTreeMap, get, is_at, IsOrdered}
 use Rattle.std.specs.VecDeque.{deque_len, deque_capacity}
 use Rattle.dt_record.specs.declared.keys.Key.{Key}
+use Rattle.dt_record.specs.Undoing.{earlier_state, earlier_views, put_back}
 use Rattle.dt_windows.specs.declared.steps.Step.{Step}
 use Rattle.dt_windows.specs.declared.steps.Steps.{Steps}
 use Rattle.dt_windows.specs.Kept.{WindowsView}
@@ -19,15 +20,17 @@ Entries = List (ℕ × Option Key)
 abbrev pub present : Entries → List (ℕ × Key)
 present entries = filter_map (λ e. option_map (λ key. (e.0, key)) e.1) entries
 
+-- the slots before a step
+abbrev pub slots_before : Entries → Step → Entries
+slots_before = put_back (λ s. s.page) (λ s. s.key)
+
 -- the slots before some steps, which are in the order in which they came
 abbrev pub before_steps : Entries → List Step → Entries
-before_steps entries [] = entries
-before_steps entries (s ∷ ss) = set_value (is_at (nat_cmp s.page)) (before_steps entries ss) s.key
+before_steps entries steps = earlier_state slots_before entries steps
 
 -- the pages before each of some steps
 abbrev pub past_of : Entries → List Step → List (List (ℕ × Key))
-past_of entries [] = []
-past_of entries (s ∷ ss) = present (before_steps entries (s ∷ ss)) ∷ past_of entries ss
+past_of entries steps = earlier_views slots_before present entries steps
 
 -- what the last fences, the slots of pages and the steps that led to these stand for
 abbrev pub windows_of : Option Key → Option Key → Entries → Steps → WindowsView

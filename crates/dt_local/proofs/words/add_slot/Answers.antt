@@ -5,7 +5,8 @@ use Rattle.std.specs.BTreeMap.{is_at}
 use Rattle.std.specs.Map.{lookup}
 use Rattle.dt_local.specs.declared.slots.Slot.{Slot}
 use Rattle.dt_local.specs.Slots.{Entries, IsWidened}
-use Rattle.dt_local.proofs.Undoing.{at, IsWidened-insert}
+use Rattle.dt_record.proofs.Undoing.{at}
+use Rattle.dt_local.proofs.Undoing.{IsWidened-insert}
 use Rattle.dt_local.proofs.words.add_slot.Goals as goal
 
 some_stays : (b : Bool) (slot : Slot) (o : Option Slot) → IsSome o → IsSome (cond b (Some slot) o)

@@ -1,5 +1,5 @@
 use Rattle.std.proofs.Common.{◌∙◌, ap, sym}
-use Rattle.dt_local.proofs.Undoing.{set_value_none}
+use Rattle.dt_record.proofs.Undoing.{set_value_none}
 use Rattle.dt_local.proofs.words.put_slot.Goals as goal
 
 pub returns-in_default-clause-entries : goal.returns-in_default-clause-entries

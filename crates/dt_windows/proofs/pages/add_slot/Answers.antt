@@ -5,7 +5,8 @@ use Rattle.std.specs.BTreeMap.{is_at}
 use Rattle.std.specs.Map.{lookup}
 use Rattle.dt_record.specs.declared.keys.Key.{Key}
 use Rattle.dt_windows.specs.Pages.{Entries, IsWidened}
-use Rattle.dt_windows.proofs.Undoing.{at, IsWidened-insert}
+use Rattle.dt_record.proofs.Undoing.{at}
+use Rattle.dt_windows.proofs.Undoing.{IsWidened-insert}
 use Rattle.dt_windows.proofs.pages.add_slot.Goals as goal
 
 some_stays : (b : Bool) (slot : Option Key) (o : Option (Option Key)) → IsSome o → IsSome (cond b (Some slot) o)

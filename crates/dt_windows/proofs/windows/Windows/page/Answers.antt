@@ -2,7 +2,8 @@ use Rattle.std.proofs.Common.{◌≡◌, ◌/◌, ◌∙◌, ap, sym, rules}
 use Rattle.std.specs.Option.{option_flatten}
 use Rattle.std.specs.Map.{lookup}
 use Rattle.dt_windows.specs.Kept.{WindowsView, later_of, page_key}
-use Rattle.dt_windows.proofs.Undoing.{at, lookup-present}
+use Rattle.dt_record.proofs.Undoing.{at}
+use Rattle.dt_windows.proofs.Undoing.{lookup-present}
 use Rattle.dt_windows.proofs.windows.Windows.page.Goals as goal
 
 pub returns : goal.returns

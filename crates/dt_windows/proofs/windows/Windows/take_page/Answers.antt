@@ -10,7 +10,8 @@ use Rattle.dt_windows.specs.Marks.{KeepsMarks}
 use Rattle.dt_windows.specs.Pages.{windows_of}
 use Rattle.dt_windows.proofs.Soundness.{SameSteps, IsSound-stepped, IsSound-widened, windows_of-widened}
 use Rattle.dt_windows.proofs.Taking.{takes_page}
-use Rattle.dt_windows.proofs.Undoing.{at, lookup-present, KeepsMarks-stepped}
+use Rattle.dt_record.proofs.Undoing.{at}
+use Rattle.dt_windows.proofs.Undoing.{lookup-present, KeepsMarks-stepped}
 use Rattle.dt_windows.proofs.windows.Windows.take_page.Goals as goal
 
 pub invariant_of-self : goal.invariant_of-self
