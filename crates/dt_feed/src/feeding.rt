@@ -1,4 +1,4 @@
-ghost use Rattle.std.specs.Prelude.{◌≡◌, ◌≢◌, ◌<◌, ◌≤◌, ◌++◌, [], ◌∷◌, List, Some, IfSome, true, false, length, vec_len, if◌then◌else◌};
+ghost use Rattle.std.specs.Prelude.{◌≡◌, ◌≢◌, ◌<◌, ◌≤◌, ◌++◌, [], ◌∷◌, ℕ, List, Option, Some, IfSome, true, false, length, vec_len, if◌then◌else◌};
 ghost use Rattle.dt_record.specs.declared.records.Record.{Record};
 ghost use Rattle.dt_record.specs.Keys.{records_of};
 ghost use Rattle.dt_record.specs.Streams.{Rose};
@@ -127,6 +127,8 @@ fn feed_records<R: Wait, P: Probes, G: Gate>(
         IfRefused result (λ r. r ≢ refusal.ReadFault → r ≢ refusal.OutOfMemory → IfSome told (λ answers. refusal_in answers ≡ Some r)) }
     ensures refused_at { IfRefused result (λ r. IsRefusedAt (P.progress probes.new) r) }
     ensures fault { result ≡ FeedEnd.Refused refusal.ReadFault → Rose (P.faults probes.old) (P.faults probes.new) }
+    ensures needed { result ≡ FeedEnd.Refused refusal.ReadFault
+        → (bytes : Option (List ℕ)) → P.has_origin probes.old bytes → P.leaves_open probes.new bytes }
     ensures never_falls { P.faults probes.old ≤ P.faults probes.new }
     ensures same_lent { P.lent probes.new ≡ P.lent probes.old }
     ensures saw_stop { result ≡ FeedEnd.Stopped → pass.new.saw_stop ≡ true }
@@ -177,6 +179,8 @@ pub fn feed<R: Wait, P: Probes, G: Gate>(
         IfRefused result (λ r. r ≢ refusal.ReadFault → r ≢ refusal.OutOfMemory → IfSome told (λ answers. refusal_in answers ≡ Some r)) }
     ensures refused_at { IfRefused result (λ r. IsRefusedAt (P.progress probes.new) r) }
     ensures fault { result ≡ FeedEnd.Refused refusal.ReadFault → Rose (P.faults probes.old) (P.faults probes.new) }
+    ensures needed { result ≡ FeedEnd.Refused refusal.ReadFault
+        → (bytes : Option (List ℕ)) → P.has_origin probes.old bytes → P.leaves_open probes.new bytes }
     ensures never_falls { P.faults probes.old ≤ P.faults probes.new }
     ensures same_lent { P.lent probes.new ≡ P.lent probes.old }
     ensures saw_stop { result ≡ FeedEnd.Stopped → pass.new.saw_stop ≡ true }

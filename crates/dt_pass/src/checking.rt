@@ -1,4 +1,4 @@
-ghost use Rattle.std.specs.Prelude.{◌≡◌, ◌≢◌, ◌≤◌, IfOk, IfErr, IfSome, OnOk, Some, None, Err, length, map};
+ghost use Rattle.std.specs.Prelude.{◌≡◌, ◌≢◌, ◌≤◌, ℕ, List, Option, IfOk, IfErr, IfSome, OnOk, Some, None, Err, length, map};
 ghost use Rattle.std.specs.List.{range_with_len};
 ghost use Rattle.dt_record.specs.declared.limits.TheConstants.{RECORD_LIMIT};
 ghost use Rattle.dt_record.specs.Keys.{records_of};
@@ -32,6 +32,8 @@ pub fn pass<P: Probes>(alloc: Global, image: &Image, probes: &mut P) -> Result<C
         → IfSome (P.left probes.old) (λ answers. refusal_in answers ≡ Some r)) }
     ensures refused_at { IfErr result (λ r. IsRefusedAt (P.progress probes.new) r) }
     ensures fault { result ≡ Err refusal.ReadFault → Rose (P.faults probes.old) (P.faults probes.new) }
+    ensures needed { result ≡ Err refusal.ReadFault
+        → (bytes : Option (List ℕ)) → P.has_origin probes.old bytes → P.leaves_open probes.new bytes }
     ensures never_falls { P.faults probes.old ≤ P.faults probes.new }
     ensures same_lent { P.lent probes.new ≡ P.lent probes.old }
 {
@@ -56,6 +58,8 @@ pub fn pass_behind<P: Probes>(
         IfErr result (λ r. r ≢ refusal.ReadFault → r ≢ refusal.OutOfMemory → IfSome told (λ answers. refusal_in answers ≡ Some r)) }
     ensures refused_at { IfErr result (λ r. IsRefusedAt (P.progress probes.new) r) }
     ensures fault { result ≡ Err refusal.ReadFault → Rose (P.faults probes.old) (P.faults probes.new) }
+    ensures needed { result ≡ Err refusal.ReadFault
+        → (bytes : Option (List ℕ)) → P.has_origin probes.old bytes → P.leaves_open probes.new bytes }
     ensures never_falls { P.faults probes.old ≤ P.faults probes.new }
     ensures same_lent { P.lent probes.new ≡ P.lent probes.old }
 {

@@ -1,4 +1,4 @@
-ghost use Rattle.std.specs.Prelude.{◌≡◌, ◌≢◌, ◌≤◌, Err, IfErr, IfOk, IfSome, None, OnOk, Some};
+ghost use Rattle.std.specs.Prelude.{◌≡◌, ◌≢◌, ◌≤◌, ℕ, List, Option, Err, IfErr, IfOk, IfSome, None, OnOk, Some};
 ghost use Rattle.dt_record.specs.Streams.{IsFresh, Rose};
 ghost use Rattle.dt_verdict.specs.declared.answers.Refusal.TheVariants as refusal;
 ghost use Rattle.dt_reading.specs.Reading.{IsRefusedAt, refusal_in};
@@ -39,6 +39,8 @@ pub fn check<R: Threads + Wait + Sync, P: Probes, G: Gate + Sync>(
         → IfSome (P.left probes.old) (λ answers. refusal_in answers ≡ Some r)) }
     ensures refused_at { IfErr result (λ r. IsRefusedAt (P.progress probes.new) r) }
     ensures fault { result ≡ Err refusal.ReadFault → Rose (P.faults probes.old) (P.faults probes.new) }
+    ensures needed { result ≡ Err refusal.ReadFault
+        → (bytes : Option (List ℕ)) → P.has_origin probes.old bytes → P.leaves_open probes.new bytes }
     ensures never_falls { P.faults probes.old ≤ P.faults probes.new }
     ensures same_lent { P.lent probes.new ≡ P.lent probes.old }
 {

@@ -1,5 +1,5 @@
 //! The threads of the workers, and the feed on the caller's thread.
-ghost use Rattle.std.specs.Prelude.{◌≡◌, ◌≢◌, ◌≤◌, [], All, Some, IfOk, IfSome, true, false, length, map, vec_len, vec_capacity};
+ghost use Rattle.std.specs.Prelude.{◌≡◌, ◌≢◌, ◌≤◌, ℕ, [], List, Option, All, Some, IfOk, IfSome, true, false, length, map, vec_len, vec_capacity};
 ghost use Rattle.dt_record.specs.Streams.{Rose};
 ghost use Rattle.dt_verdict.specs.declared.answers.Refusal.TheVariants as refusal;
 ghost use Rattle.dt_reading.specs.Reading.{IsRefusedAt, refusal_in, with_header};
@@ -149,6 +149,8 @@ fn work_within<'s, E, R: Threads + Wait + Sync, Q: Probes + Drop, G: Gate + Sync
     ensures refused_at { result.started ≡ true → IfRefused result.feeder.end (λ r. IsRefusedAt (Q.progress result.feeder.probes) r) }
     ensures fault { result.started ≡ true → result.feeder.end ≡ FeedEnd.Refused refusal.ReadFault
         → Rose (Q.faults feeder.probes) (Q.faults result.feeder.probes) }
+    ensures needed { result.started ≡ true → result.feeder.end ≡ FeedEnd.Refused refusal.ReadFault
+        → (bytes : Option (List ℕ)) → Q.has_origin feeder.probes bytes → Q.leaves_open result.feeder.probes bytes }
     ensures pass { let pass = result.feeder.pass in
         pass ≡ record feeder.pass { stopped = pass.stopped; saw_stop = pass.saw_stop } }
     ensures untouched { result.started ≡ false → result.feeder.probes ≡ feeder.probes }
@@ -208,6 +210,8 @@ pub(crate) fn run_all<R: Threads + Wait + Sync, Q: Probes + Drop, G: Gate + Sync
     ensures refused_at { result.started ≡ true → IfRefused result.feeder.end (λ r. IsRefusedAt (Q.progress result.feeder.probes) r) }
     ensures fault { result.started ≡ true → result.feeder.end ≡ FeedEnd.Refused refusal.ReadFault
         → Rose (Q.faults feeder.probes) (Q.faults result.feeder.probes) }
+    ensures needed { result.started ≡ true → result.feeder.end ≡ FeedEnd.Refused refusal.ReadFault
+        → (bytes : Option (List ℕ)) → Q.has_origin feeder.probes bytes → Q.leaves_open result.feeder.probes bytes }
     ensures pass { let pass = result.feeder.pass in
         pass ≡ record feeder.pass { stopped = pass.stopped; saw_stop = pass.saw_stop } }
     ensures untouched { result.started ≡ false → result.feeder.probes ≡ feeder.probes }

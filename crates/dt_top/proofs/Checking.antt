@@ -7,6 +7,7 @@ use Rattle.dt_record.specs.declared.streams.Next.{Next}
 use Rattle.dt_record.specs.declared.streams.Next.TheVariants.{Event, End}
 use Rattle.dt_record.specs.Answers.{Reading, AreAnswers, AreAnswersAfter, after_record}
 use Rattle.dt_record.specs.Streams.{Progress}
+use Rattle.dt_probe_file.specs.OpenFronts.{HasOpenFront}
 use Rattle.dt_probe_file.specs.Told.{AreToldOf}
 use Rattle.dt_verdict.specs.declared.answers.Checked.{Checked}
 use Rattle.dt_verdict.specs.declared.answers.Refusal.{Refusal}
@@ -18,6 +19,7 @@ use Rattle.dt_top.specs.declared.replies.Reply.{Reply}
 use Rattle.dt_top.specs.declared.replies.Reply.TheVariants.{Usage, TooLong, ReadFaultImage, Refused, Report, OutOfMemory}
 use Rattle.dt_top.specs.Answer.{answer, refusal_line, verdict_status, IsRefused, IsReport}
 use Rattle.dt_top.specs.Replies.{IsStreamReply, IsRefusalReply, IsReportReply}
+use Rattle.dt_top.specs.Running.{Outside, HasFailedOpen}
 
 -- ---- the answers
 
@@ -51,44 +53,53 @@ report_said image sources (Some b) told progress checked v text tells check verd
       reported = ap (λ w. answer (verdict_status w) text) verdict ∙ ap (λ t. answer (verdict_status checked.verdict) t) written;
     })
 
-pub checked_said : (image : List ℕ) (sources : Bool) (probes : Option (List ℕ)) (faults_old faults_new : ℕ)
-    (told : Option (List Next)) (progress : Progress) (checked : Checked) (reply : Reply) → AreToldOf probes told
-    → IsCheckOf image told progress checked → IsReportReply checked sources reply → IsStreamReply image sources told faults_old faults_new reply
-checked_said image sources probes _ _ told progress checked Usage tells check is = is
-checked_said image sources probes _ _ told progress checked TooLong tells check is = is
-checked_said image sources probes _ _ told progress checked ReadFaultImage tells check is = is
-checked_said image sources probes _ _ told progress checked (Refused r line) tells check is = absurd is
-checked_said image sources probes _ _ told progress checked (Report v text) tells check is =
-    report_said image sources probes told progress checked v text tells check is.0 is.1
-checked_said image sources probes _ _ told progress checked OutOfMemory tells check is = tt
+pub checked_said : (image : List ℕ) (sources : Bool) (probes : Outside)
+    (told : Option (List Next)) (progress : Progress) (checked : Checked) (reply : Reply) → AreToldOf probes.before told
+    → IsCheckOf image told progress checked → IsReportReply checked sources reply → IsStreamReply image sources told probes reply
+checked_said image sources probes told progress checked Usage tells check is = is
+checked_said image sources probes told progress checked TooLong tells check is = is
+checked_said image sources probes told progress checked ReadFaultImage tells check is = is
+checked_said image sources probes told progress checked (Refused r line) tells check is = absurd is
+checked_said image sources probes told progress checked (Report v text) tells check is =
+    report_said image sources probes.before told progress checked v text tells check is.0 is.1
+checked_said image sources probes told progress checked OutOfMemory tells check is = tt
 
--- the counts of the stream are those of the source, which was lent before and was given back after
-pub refused_said : (image : List ℕ) (sources : Bool) (faults_old faults_new own_old own_new : ℕ)
-    (told : Option (List Next)) (r : Refusal) (reply : Reply) → own_old ≡ faults_old
+pub refused_said : (image : List ℕ) (sources : Bool) (probes : Outside) (told : Option (List Next)) (r : Refusal) (reply : Reply)
     → (r ≢ refusal.ReadFault → r ≢ refusal.OutOfMemory → IfSome told (λ answers. refusal_in answers ≡ Some r))
-    → (r ≡ refusal.ReadFault → Rose own_old own_new) → faults_new ≡ own_new
-    → IsRefusalReply r reply → IsStreamReply image sources told faults_old faults_new reply
-refused_said image sources faults_old faults_new own_old own_new told r Usage first known fault last is = is
-refused_said image sources faults_old faults_new own_old own_new told r TooLong first known fault last is = is
-refused_said image sources faults_old faults_new own_old own_new told r ReadFaultImage first known fault last is = is
-refused_said image sources faults_old faults_new own_old own_new told r (Refused named line) first known fault last is =
-    subst (λ (x : Refusal). (string_bytes line ≡ refusal_line x) × (x ≡ refusal.ReadFault → Rose faults_old faults_new)
-    × (x ≢ refusal.ReadFault → x ≢ refusal.OutOfMemory → IfSome told (λ answers. IsRefused answers x))) (sym is.0) (
-      is.1,
-      λ e. subst (λ (n : ℕ). Rose n faults_new) first (subst (λ (n : ℕ). Rose own_old n) (sym last) (fault e)),
-      known,
-    )
-refused_said image sources faults_old faults_new own_old own_new told r (Report v text) first known fault last is = absurd is
-refused_said image sources faults_old faults_new own_old own_new told r OutOfMemory first known fault last is = tt
+    → (r ≡ refusal.ReadFault → HasFailedOpen probes) → IsRefusalReply r reply → IsStreamReply image sources told probes reply
+refused_said image sources probes told r Usage known fault is = is
+refused_said image sources probes told r TooLong known fault is = is
+refused_said image sources probes told r ReadFaultImage known fault is = is
+refused_said image sources probes told r (Refused named line) known fault is =
+    subst (λ (x : Refusal). (string_bytes line ≡ refusal_line x) × (x ≡ refusal.ReadFault → HasFailedOpen probes)
+    × (x ≢ refusal.ReadFault → x ≢ refusal.OutOfMemory → IfSome told (λ answers. IsRefused answers x))) (sym is.0) (is.1, fault, known)
+refused_said image sources probes told r (Report v text) known fault is = absurd is
+refused_said image sources probes told r OutOfMemory known fault is = tt
 
-pub stream_said : (image : List ℕ) (sources : Bool) (probes : Option (List ℕ)) (faults_old faults_new own_old own_new : ℕ)
-    (told : Option (List Next)) (progress : Progress) (came : Result Checked Refusal) (reply : Reply) → AreToldOf probes told → own_old ≡ faults_old
-    → faults_new ≡ own_new → IfOk came (λ checked. IsCheckOf image told progress checked)
+-- What a stream has of the source that was lent to it: its counts of faults, before and after, are the source's, and it
+-- left the source as it came back.
+pub record IsLentTo (probes : Outside) (own_old own_new : ℕ) (left : Option (List ℕ)) : Type 0 where
+  pub first : own_old ≡ probes.faults_before
+  pub last : probes.faults_after ≡ own_new
+  pub left_is : probes.after ≡ left
+
+-- a read of the stream that failed is one of the source
+pub failed_open : (probes : Outside) (own_old own_new : ℕ) (left : Option (List ℕ)) → IsLentTo probes own_old own_new left
+    → Rose own_old own_new → HasOpenFront probes.before left → HasFailedOpen probes
+failed_open probes own_old own_new left lent rose front = (
+  subst (λ (n : ℕ). Rose n probes.faults_after) lent.first (subst (λ (n : ℕ). Rose own_old n) (sym lent.last) rose),
+  subst (λ (after : Option (List ℕ)). HasOpenFront probes.before after) (sym lent.left_is) front,
+)
+
+pub stream_said : (image : List ℕ) (sources : Bool) (probes : Outside) (own_old own_new : ℕ) (left : Option (List ℕ))
+    (told : Option (List Next)) (progress : Progress) (came : Result Checked Refusal) (reply : Reply) → AreToldOf probes.before told
+    → IsLentTo probes own_old own_new left → IfOk came (λ checked. IsCheckOf image told progress checked)
     → IfErr came (λ r. r ≢ refusal.ReadFault → r ≢ refusal.OutOfMemory → IfSome told (λ answers. refusal_in answers ≡ Some r))
-    → (came ≡ Err refusal.ReadFault → Rose own_old own_new)
+    → (came ≡ Err refusal.ReadFault → Rose own_old own_new) → (came ≡ Err refusal.ReadFault → HasOpenFront probes.before left)
     → IfOk came (λ checked. IsReportReply checked sources reply) → IfErr came (λ r. IsRefusalReply r reply)
-    → IsStreamReply image sources told faults_old faults_new reply
-stream_said image sources probes faults_old faults_new own_old own_new told progress (Ok checked) reply tells first last check known fault report refused =
-    checked_said image sources probes faults_old faults_new told progress checked reply tells check report
-stream_said image sources probes faults_old faults_new own_old own_new told progress (Err r) reply tells first last check known fault report refused =
-    refused_said image sources faults_old faults_new own_old own_new told r reply first known (λ e. fault (ap (λ (x : Refusal). Err x) e)) last refused
+    → IsStreamReply image sources told probes reply
+stream_said image sources probes own_old own_new left told progress (Ok checked) reply tells lent check known fault needed report refused =
+    checked_said image sources probes told progress checked reply tells check report
+stream_said image sources probes own_old own_new left told progress (Err r) reply tells lent check known fault needed report refused =
+    refused_said image sources probes told r reply known
+    (λ e. failed_open probes own_old own_new left lent (fault (ap (λ (x : Refusal). Err x) e)) (needed (ap (λ (x : Refusal). Err x) e))) refused

@@ -7,6 +7,7 @@ use Rattle.dt_record.specs.declared.streams.Next.{Next}
 use Rattle.dt_record.specs.declared.streams.Next.TheVariants.{Header, Event, End, Malformed, Limit, ReadFault, OutOfMemory}
 use Rattle.dt_record.specs.Answers.{AreAnswers}
 use Rattle.dt_record.specs.Spelling.{Version}
+use Rattle.dt_probe_file.specs.OpenFronts.{HasOpenFront}
 use Rattle.dt_probe_file.specs.Told.{AreToldOf}
 use Rattle.dt_dump.specs.Dump.{IsCutShort, dump_text, last_status, memory_line, read_fault_line, stream_status}
 use Rattle.dt_convert.specs.Convert.{converted}
@@ -19,6 +20,7 @@ use Rattle.dt_reading.specs.Reading.{refusal_in}
 use Rattle.dt_top.specs.Answer.{answer, refusal_status, version_named, IsAnswer, IsRefused}
 use Rattle.dt_top.specs.Running.{Outside, HasFailed, IsGiven, IsGivenFront, Ran, StopsWith}
 use Rattle.dt_top.specs.Tasks.{prints_report}
+use Rattle.dt_top.proofs.Checking.{IsLentTo}
 use Rattle.dt_top.proofs.Tasks.{convert_alone, dump_alone, dump_is_not_convert, either, no_image_first, of_told, where_alone, ReadsFileAlone}
 
 -- what the run of a stream says of itself, whatever its text is
@@ -114,8 +116,8 @@ no_report task alone report = let e = sym alone.no_report ∙ report in cc
 pub ran_of_stream : (asked : Asked) (image probes out : Outside) (told : Option (List Next)) (status : ℕ)
     (ended : Option Next) (text_of : List Next → List ℕ) (cut : List ℕ → Option (List Next) → List ℕ → Type 0) → IsFileTask asked text_of cut
     → AreToldOf probes.before told → Streamed told ended text_of cut probes.faults_before probes.faults_after out status
-    → Ran (Some asked) image probes out status
-ran_of_stream asked image probes out told status ended text_of cut task tells s = record {
+    → (status ≡ 5 → HasOpenFront probes.before probes.after) → Ran (Some asked) image probes out status
+ran_of_stream asked image probes out told status ended text_of cut task tells s needed = record {
   told = told;
   are_told = tells;
   whole = λ five six seven. where_alone asked image.before probes.before (λ i b. (text : List ℕ) × IsGiven out text × IsAnswer (Some asked) i b (answer status text)) task.alone (λ i.
@@ -138,7 +140,7 @@ ran_of_stream asked image probes out told status ended text_of cut task tells s 
   refused_line = λ asks. absurd (no_report asked.task task.alone asks);
   read_fault = λ five.
       let text = s.read_fault_text five in
-      inr (s.read_fault five, task.alone.file, (λ asks. absurd (no_image_first task.alone.no_image asks)), (text.0, task.stops read_fault_line text.0 told text.1, text.2));
+      inr ((s.read_fault five, needed five), task.alone.file, (λ asks. absurd (no_image_first task.alone.no_image asks)), (text.0, task.stops read_fault_line text.0 told text.1, text.2));
   memory = λ seven.
       let text = s.memory seven in
       (text.0, task.stops memory_line text.0 told text.1, text.2);
@@ -202,28 +204,29 @@ convert_task asked is = record {
 
 -- ---- a stream over a source that was lent
 
--- the counts of the stream are those of the source, which was lent before and was given back after
-pub stream_ran : (asked : Asked) (image probes out : Outside) (own_old own_new : ℕ) (status : ℕ) (told : Option (List Next)) (last_answer : Option Next)
+-- the stream is one of the source, which was lent before and was given back after
+pub stream_ran : (asked : Asked) (image probes out : Outside) (own_old own_new : ℕ) (left : Option (List ℕ)) (status : ℕ) (told : Option (List Next)) (last_answer : Option Next)
     (text_of : List Next → List ℕ) (cut : List ℕ → Option (List Next) → List ℕ → Type 0) → IsFileTask asked text_of cut
-    → AreToldOf probes.before told → own_old ≡ probes.faults_before
-    → Streamed told last_answer text_of cut own_old own_new out status → probes.faults_after ≡ own_new
+    → AreToldOf probes.before told → IsLentTo probes own_old own_new left
+    → Streamed told last_answer text_of cut own_old own_new out status → (status ≡ 5 → HasOpenFront probes.before left)
     → Ran (Some asked) image probes out status
-stream_ran asked image probes out own_old own_new status told last_answer text_of cut task tells first s last =
+stream_ran asked image probes out own_old own_new left status told last_answer text_of cut task tells lent s needed =
     ran_of_stream asked image probes out told status last_answer text_of cut task tells
-    (subst (λ (n : ℕ). Streamed told last_answer text_of cut n probes.faults_after out status) first
-    (subst (λ (n : ℕ). Streamed told last_answer text_of cut own_old n out status) (sym last) s))
+    (subst (λ (n : ℕ). Streamed told last_answer text_of cut n probes.faults_after out status) lent.first
+    (subst (λ (n : ℕ). Streamed told last_answer text_of cut own_old n out status) (sym lent.last) s))
+    (λ five. subst (λ (after : Option (List ℕ)). HasOpenFront probes.before after) (sym lent.left_is) (needed five))
 
-pub dump_ran : (asked : Asked) (image probes out : Outside) (own_old own_new : ℕ) (status : ℕ) (told : Option (List Next)) (last_answer : Option Next)
-    → asked.task ≡ Dump → AreToldOf probes.before told → own_old ≡ probes.faults_before
-    → Streamed told last_answer dump_text dump_cut own_old own_new out status → probes.faults_after ≡ own_new
+pub dump_ran : (asked : Asked) (image probes out : Outside) (own_old own_new : ℕ) (left : Option (List ℕ)) (status : ℕ) (told : Option (List Next)) (last_answer : Option Next)
+    → asked.task ≡ Dump → AreToldOf probes.before told → IsLentTo probes own_old own_new left
+    → Streamed told last_answer dump_text dump_cut own_old own_new out status → (status ≡ 5 → HasOpenFront probes.before left)
     → Ran (Some asked) image probes out status
-dump_ran asked image probes out own_old own_new status told last_answer is =
-    stream_ran asked image probes out own_old own_new status told last_answer dump_text dump_cut (dump_task asked is)
+dump_ran asked image probes out own_old own_new left status told last_answer is =
+    stream_ran asked image probes out own_old own_new left status told last_answer dump_text dump_cut (dump_task asked is)
 
-pub convert_ran : (asked : Asked) (image probes out : Outside) (own_old own_new : ℕ) (status : ℕ) (told : Option (List Next)) (last_answer : Option Next)
-    (version : Version) → asked.task ≡ Convert → version ≡ version_named asked.to → AreToldOf probes.before told → own_old ≡ probes.faults_before
-    → Streamed told last_answer (converted version) convert_cut own_old own_new out status → probes.faults_after ≡ own_new
+pub convert_ran : (asked : Asked) (image probes out : Outside) (own_old own_new : ℕ) (left : Option (List ℕ)) (status : ℕ) (told : Option (List Next)) (last_answer : Option Next)
+    (version : Version) → asked.task ≡ Convert → version ≡ version_named asked.to → AreToldOf probes.before told → IsLentTo probes own_old own_new left
+    → Streamed told last_answer (converted version) convert_cut own_old own_new out status → (status ≡ 5 → HasOpenFront probes.before left)
     → Ran (Some asked) image probes out status
-convert_ran asked image probes out own_old own_new status told last_answer version is named tells first s last =
-    stream_ran asked image probes out own_old own_new status told last_answer (converted (version_named asked.to)) convert_cut (convert_task asked is) tells first
-    (subst (λ (v : Version). Streamed told last_answer (converted v) convert_cut own_old own_new out status) named s) last
+convert_ran asked image probes out own_old own_new left status told last_answer version is named tells lent s =
+    stream_ran asked image probes out own_old own_new left status told last_answer (converted (version_named asked.to)) convert_cut (convert_task asked is) tells lent
+    (subst (λ (v : Version). Streamed told last_answer (converted v) convert_cut own_old own_new out status) named s)

@@ -25,7 +25,7 @@ use Rattle.dt_top.specs.declared.replies.Reply.{Reply}
 use Rattle.dt_top.specs.declared.replies.Reply.TheVariants as reply
 use Rattle.dt_top.specs.Answer.{Answer, answer, verdict_status, usage_answer, too_long_answer, image_answer, image_fault_answer, memory_answer, refusal_answer, refusal_line, refusal_status, Fits, IsAnswer, IsRefused, IsReport, IsTooLong}
 use Rattle.dt_top.specs.Replies.{answer_by, CameOf, IsStreamReply, IsPut, JudgesFile}
-use Rattle.dt_top.specs.Running.{Outside, outside, HasFailed, IsGiven, MayWrite, Ran, StopsWith}
+use Rattle.dt_top.specs.Running.{Outside, outside, HasFailed, HasFailedOpen, IsGiven, MayWrite, Ran, StopsWith}
 use Rattle.dt_top.specs.Tasks.{WhereTold}
 use Rattle.dt_top.proofs.Checking.{not_refused}
 use Rattle.dt_top.proofs.Tasks.{are_told, both_told, either, not_dump, not_convert, of_told, some_map, where_map, where_judged}
@@ -153,7 +153,7 @@ may_write asked image probes a came =
       | inl five ↦
           either (came.read_fault five)
           (λ f. inr (inl (f.0, f.1, same_text a.text _ f.2)))
-          (λ f. inr (inr (inl (f.0, subst (λ (t : List ℕ). StopsWith read_fault_line asked came.told t) (sym (same_text a.text f.3.0 f.3.2)) f.3.1))))
+          (λ f. inr (inr (inl (f.0.0, subst (λ (t : List ℕ). StopsWith read_fault_line asked came.told t) (sym (same_text a.text f.3.0 f.3.2)) f.3.1))))
       | inr not_five ↦
           elim (cases_eq a.status 7) [
             | inl seven ↦
@@ -378,7 +378,7 @@ not_seven refused = λ seven. either refused (λ e. cc) (λ e. cc)
 
 of_refusal : (asked : Asked) (i : List ℕ) (image probes : Outside) (told : Option (List Next)) (r : Refusal) (line : List ℕ) → JudgesFile asked.task
     → Fits i → IfSome image.before (λ bytes. bytes ≡ i) → AreToldOf probes.before told
-    → line ≡ refusal_line r → (r ≡ ReadFault → HasFailed probes) → (r ≢ ReadFault → r ≢ OutOfMemory → IfSome told (λ answers. IsRefused answers r))
+    → line ≡ refusal_line r → (r ≡ ReadFault → HasFailedOpen probes) → (r ≢ ReadFault → r ≢ OutOfMemory → IfSome told (λ answers. IsRefused answers r))
     → CameOf (Some asked) image probes (answer (refusal_status r) line)
 of_refusal asked i image probes told r line judges fits known tells written fault is = record {
   told = told;
@@ -448,7 +448,7 @@ of_report asked i image probes told v text judges fits known tells is = record {
 
 of_known : (asked : Asked) (i : List ℕ) (image probes : Outside) (told : Option (List Next)) (r : Reply) → JudgesFile asked.task
     → Fits i → IfSome image.before (λ bytes. bytes ≡ i) → AreToldOf probes.before told
-    → IsStreamReply i asked.sources told probes.faults_before probes.faults_after r → CameOf (Some asked) image probes (answer_by r)
+    → IsStreamReply i asked.sources told probes r → CameOf (Some asked) image probes (answer_by r)
 of_known asked i image probes told reply.Usage judges fits known tells said = absurd said
 of_known asked i image probes told reply.TooLong judges fits known tells said = absurd said
 of_known asked i image probes told reply.ReadFaultImage judges fits known tells said = absurd said
@@ -460,8 +460,8 @@ of_known asked i image probes told reply.OutOfMemory judges fits known tells sai
 
 pub of_pass : (asked : Asked) (i : List ℕ) (image probes : Outside) (sources : Bool) (r : Reply) → JudgesFile asked.task → asked.sources ≡ sources
     → Fits i → IfSome image.before (λ bytes. let x : Result (List ℕ) ImageRefusal = Ok i in x ≡ loaded bytes)
-    → (told : Option (List Next)) × AreToldOf probes.before told × IsStreamReply i sources told probes.faults_before probes.faults_after r
+    → (told : Option (List Next)) × AreToldOf probes.before told × IsStreamReply i sources told probes r
     → CameOf (Some asked) image probes (answer_by r)
 of_pass asked i image probes sources r judges wants fits loads said =
     of_known asked i image probes said.0 r judges fits (some_map image.before _ _ loads (λ bytes e. fitting bytes i e)) said.1
-    (subst (λ (s : Bool). IsStreamReply i s said.0 probes.faults_before probes.faults_after r) (sym wants) said.2)
+    (subst (λ (s : Bool). IsStreamReply i s said.0 probes r) (sym wants) said.2)

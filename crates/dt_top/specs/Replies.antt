@@ -1,7 +1,6 @@
 -- What the program comes to before it writes. No public clause cites these words.
 use Rattle.std.specs.Prelude.{ℕ, ◌≡◌, ◌≢◌, Bool, true, List, [], Option, Some, IfSome}
 use Rattle.std.specs.String.{string_bytes}
-use Rattle.dt_source.specs.Faults.{Rose}
 use Rattle.dt_record.specs.declared.streams.Next.{Next}
 use Rattle.dt_verdict.specs.declared.answers.Checked.{Checked}
 use Rattle.dt_verdict.specs.declared.answers.Refusal.{Refusal}
@@ -12,7 +11,7 @@ use Rattle.dt_words.specs.Table.{Asked}
 use Rattle.dt_top.specs.declared.replies.Reply.{Reply}
 use Rattle.dt_top.specs.declared.replies.Reply.TheVariants.{Usage, TooLong, ReadFaultImage, Refused, Report, OutOfMemory}
 use Rattle.dt_top.specs.Answer.{Answer, answer, verdict_status, usage_answer, image_fault_answer, memory_answer, too_long_answer, refusal_status, refusal_line, IsRefused, IsReport}
-use Rattle.dt_top.specs.Running.{Outside, outside, HasFailed, IsGiven, IsGivenFront, Ran}
+use Rattle.dt_top.specs.Running.{Outside, outside, HasFailed, HasFailedOpen, IsGiven, IsGivenFront, Ran}
 use Rattle.dt_top.specs.Tasks.{an_image, first_input, prints_report, reads_probes}
 
 -- the status and the text of a reply
@@ -37,14 +36,14 @@ IsRefusalReply r OutOfMemory = Unit {0}
 IsRefusalReply r reply = ⊥
 
 -- the reply to an image and a stream, where it tells its answers
-abbrev pub IsStreamReply : (image : List ℕ) (sources : Bool) (told : Option (List Next)) (faults_old faults_new : ℕ) → Reply → Type 0
-IsStreamReply image sources told faults_old faults_new (Refused r line) =
-    (string_bytes line ≡ refusal_line r) × (r ≡ refusal.ReadFault → Rose faults_old faults_new)
+abbrev pub IsStreamReply : (image : List ℕ) (sources : Bool) (told : Option (List Next)) (probes : Outside) → Reply → Type 0
+IsStreamReply image sources told probes (Refused r line) =
+    (string_bytes line ≡ refusal_line r) × (r ≡ refusal.ReadFault → HasFailedOpen probes)
     × (r ≢ refusal.ReadFault → r ≢ refusal.OutOfMemory → IfSome told (λ answers. IsRefused answers r))
-IsStreamReply image sources told faults_old faults_new (Report verdict text) =
+IsStreamReply image sources told probes (Report verdict text) =
     IfSome told (λ answers. IsReport image answers sources (answer (verdict_status verdict) text))
-IsStreamReply image sources told faults_old faults_new OutOfMemory = Unit {0}
-IsStreamReply image sources told faults_old faults_new reply = ⊥
+IsStreamReply image sources told probes OutOfMemory = Unit {0}
+IsStreamReply image sources told probes reply = ⊥
 
 -- a task that reads an image and then a probe file, and prints the report
 pub record JudgesFile (task : Task) : Type 0 where

@@ -3,6 +3,7 @@ use Rattle.std.specs.Prelude.{ℕ, ◌≡◌, ◌≢◌, ◌⊎◌, List, Option
 use Rattle.dt_source.specs.Faults.{Rose}
 use Rattle.dt_source.specs.Known.{Appends}
 use Rattle.dt_record.specs.declared.streams.Next.{Next}
+use Rattle.dt_probe_file.specs.OpenFronts.{HasOpenFront}
 use Rattle.dt_probe_file.specs.Told.{AreToldOf}
 use Rattle.dt_dump.specs.Dump.{AppendsPart, IsCutShort, memory_line, read_fault_line}
 use Rattle.dt_verdict.specs.declared.answers.Refusal.{Refusal}
@@ -30,6 +31,10 @@ outside before after faults_before faults_after = record {
 -- its count of faults rose
 abbrev pub HasFailed : Outside → Type 0
 HasFailed o = Rose o.faults_before o.faults_after
+
+-- a read of a probe file failed, and the bytes that were read before it leave open which answer comes next
+abbrev pub HasFailedOpen : Outside → Type 0
+HasFailedOpen o = HasFailed o × HasOpenFront o.before o.after
 
 -- this is what a sink was given
 abbrev pub IsGiven : Outside → List ℕ → Type 0
@@ -61,10 +66,11 @@ MayWrite asked image probes told text =
 abbrev pub StopsAtImage : Option Asked → (image out : Outside) → Type 0
 StopsAtImage asked image out = HasFailed image × ReadsImage asked × IsGiven out image_fault_answer.text
 
--- A read of the probe file failed: then an image that is read before it was not too long.
+-- A read of the probe file failed: then an image that is read before it was not too long, and what was read of the file
+-- before does not refuse it.
 abbrev pub StopsAtProbes : Option Asked → (image probes out : Outside) → (told : Option (List Next)) → Type 0
 StopsAtProbes asked image probes out told =
-    HasFailed probes × ReadsProbes asked × (ReadsImage asked → IfSome image.before Fits)
+    HasFailedOpen probes × ReadsProbes asked × (ReadsImage asked → IfSome image.before Fits)
     × ((text : List ℕ) × StopsWith read_fault_line asked told text × IsGiven out text)
 
 -- Each cause of an exit status, and what is written then: of what the words ask of this top call, and of what the two

@@ -146,7 +146,8 @@ pub fn judged_reply(alloc: Global, sources: bool, answer: Result<Checked, Refusa
 /// The reply to an image and a probe file, on one thread.
 fn pass_over<P: Source>(alloc: Global, sources: bool, image: &Image, probes: &mut P) -> Reply
     ensures said { (told : Option (List Next)) × AreToldOf (P.left probes.old) told
-        × IsStreamReply image.now sources told (P.faults probes.old) (P.faults probes.new) result }
+        × IsStreamReply image.now sources told
+        (outside (P.left probes.old) (P.left probes.new) (P.faults probes.old) (P.faults probes.new)) result }
     ensures never_falls { P.faults probes.old ≤ P.faults probes.new }
 {
     let Ok(room) = Room::new(alloc) else {

@@ -36,7 +36,8 @@ fn check_over<R: Threads + Wait + Sync, P: Source, G: Gate + Sync>(
     requires some_worker { 1 ≤ command.now.workers }
     requires few_workers { command.now.workers ≤ 8 }
     ensures said { (told : Option (List Next)) × AreToldOf (P.left probes.old) told
-        × IsStreamReply image.now command.now.sources told (P.faults probes.old) (P.faults probes.new) result }
+        × IsStreamReply image.now command.now.sources told
+        (outside (P.left probes.old) (P.left probes.new) (P.faults probes.old) (P.faults probes.new)) result }
     ensures never_falls { P.faults probes.old ≤ P.faults probes.new }
 {
     let Ok(room) = Room::new(alloc) else {

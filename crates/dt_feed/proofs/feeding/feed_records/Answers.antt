@@ -11,6 +11,7 @@ loop-init g c = record {
   size = refl;
   numbered = sym c.requires.behind.no_events;
   counted = omega arith;
+  same_origin = λ bytes origin. origin;
   same_lent = refl;
   pass = search rules;
 }
@@ -28,6 +29,7 @@ loop-preserved g c =
       size = pushed.size ∙ c.loop.invariant.size;
       numbered = omega (arith, c.loop.invariant.numbered, step.one_event);
       counted = omega (arith, c.loop.invariant.counted, c.in-Event.ensures.rising);
+      same_origin = λ bytes origin. c.in-Event.ensures.same_origin bytes (c.loop.invariant.same_origin bytes origin);
       same_lent = c.in-Event.ensures.same_lent ∙ c.loop.invariant.same_lent;
       pass = search rules;
     }

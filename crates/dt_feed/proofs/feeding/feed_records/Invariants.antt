@@ -1,4 +1,4 @@
-use Rattle.std.proofs.Common.{◌≡◌, ◌≤◌, length, Some}
+use Rattle.std.proofs.Common.{◌≡◌, ◌≤◌, ℕ, List, Option, length, Some}
 use Rattle.dt_reading.specs.Reading.{with_header}
 use Rattle.dt_feed.proofs.Parts.{AreFeeding}
 use Rattle.dt_feed.proofs.feeding.feed_records.Given as goal
@@ -16,6 +16,7 @@ invariant-loop g l =
       size : length l.feeds.items ≡ harts;
       numbered : l.n ≡ now.events;
       counted : g.P.Probes.faults l.initial.probes ≤ g.P.Probes.faults l.probes;
+      same_origin : (bytes : Option (List ℕ)) → g.P.Probes.has_origin l.initial.probes bytes → g.P.Probes.has_origin l.probes bytes;
       same_lent : g.P.Probes.lent l.probes ≡ g.P.Probes.lent l.initial.probes;
       pass : l.pass ≡ record l.initial.pass { saw_stop = l.pass.saw_stop };
     }

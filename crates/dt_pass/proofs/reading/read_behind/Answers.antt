@@ -16,6 +16,7 @@ loop-event-preserved g c =
           (after_record _ _ _ _ _ _ _ _ c.in-Event.event c.loop-event.invariant.underway c.in-Event.ensures.told c.in-Event.ensures.step);
       headed = c.in-Event.ensures.step.harts_stay ∙ c.loop-event.invariant.headed;
       counted = omega (arith, c.loop-event.invariant.counted, c.in-Event.ensures.rising);
+      same_origin = λ bytes origin. c.in-Event.ensures.same_origin bytes (c.loop-event.invariant.same_origin bytes origin);
       same_lent = c.in-Event.ensures.same_lent ∙ c.loop-event.invariant.same_lent;
     }
 

@@ -1,4 +1,4 @@
-use Rattle.std.proofs.Common.{◌≡◌, ◌≤◌, Some}
+use Rattle.std.proofs.Common.{◌≡◌, ◌≤◌, ℕ, List, Option, Some}
 use Rattle.dt_reading.specs.Reading.{with_header}
 use Rattle.dt_reading.specs.Underway.{IsUnderway, remaining}
 use Rattle.dt_pass.proofs.reading.read_behind.Given as goal
@@ -12,6 +12,7 @@ invariant-loop-event g l =
       underway : IsUnderway (with_header l.harts l.wide (left l.fn.probes)) (left l.probes) l.harts l.wide l.records.items now;
       headed : now.harts ≡ Some l.harts;
       counted : g.P.Probes.faults l.fn.probes ≤ g.P.Probes.faults l.probes;
+      same_origin : (bytes : Option (List ℕ)) → g.P.Probes.has_origin l.fn.probes bytes → g.P.Probes.has_origin l.probes bytes;
       same_lent : g.P.Probes.lent l.probes ≡ g.P.Probes.lent l.fn.probes;
     }
 

@@ -8,7 +8,12 @@ use Rattle.dt_top.proofs.running.run_convert.Goals as goal
 pub returns-clause-ran : goal.returns-clause-ran
 returns-clause-ran g c = λ asked image is to.
     let d = c.convert_probes-status.ensures in
-    convert_ran asked image _ _ _ _ _ _ _ _ is (c.version_named.ensures ∙ sym (ap version_named to)) c.within-stream.ensures.told c.within-stream.ensures.faults
+    convert_ran asked image _ _ _ _ _ _ _ _ _ is (c.version_named.ensures ∙ sym (ap version_named to)) c.within-stream.ensures.told
+    (record {
+      first = c.within-stream.ensures.faults;
+      last = search rules;
+      left_is = search rules;
+    })
     (record {
       whole = d.whole;
       ended = d.ended;
@@ -18,7 +23,7 @@ returns-clause-ran g c = λ asked image is to.
       write_fault = d.write_fault;
       write_fault_front = d.write_fault_front;
     })
-    (search rules)
+    (λ five. c.into_source.ensures.left_open _ (d.needed five _ c.within-stream.ensures.origin))
 
 pub returns-in_default-clause-ran : goal.returns-in_default-clause-ran
 returns-in_default-clause-ran g c = λ asked image is to. ran_of_reply _ _ _ _ _ c.put_reply.result (of_memory (Some asked) image _) c.put_reply.ensures.put

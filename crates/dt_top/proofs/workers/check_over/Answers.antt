@@ -9,8 +9,15 @@ pub returns-clause-said : goal.returns-clause-said
 returns-clause-said g c = (
   _,
   c.within-stream.ensures.told,
-  stream_said _ _ _ _ _ _ _ _ _ c.check-answer.result c.judged_reply.result c.within-stream.ensures.told c.within-stream.ensures.faults (search rules)
-      c.check-answer.ensures.checked c.check-answer.ensures.refused c.check-answer.ensures.fault c.judged_reply.ensures.report c.judged_reply.ensures.refused,
+  stream_said _ _ _ _ _ _ _ _ c.check-answer.result c.judged_reply.result c.within-stream.ensures.told
+      (record {
+        first = c.within-stream.ensures.faults;
+        last = search rules;
+        left_is = search rules;
+      })
+      c.check-answer.ensures.checked c.check-answer.ensures.refused c.check-answer.ensures.fault
+      (λ fault. c.into_source.ensures.left_open _ (c.check-answer.ensures.needed fault _ c.within-stream.ensures.origin))
+      c.judged_reply.ensures.report c.judged_reply.ensures.refused,
 )
 
 pub returns-in_default-clause-said : goal.returns-in_default-clause-said
