@@ -18,7 +18,7 @@ use Rattle.dt_runs.specs.Runs.{AreOwn, EndsWith, HoldsUntil, Runs, RunsOn}
 use Rattle.dt_verdict.specs.declared.verdicts.Failure.{Failure}
 use Rattle.dt_verdict.specs.declared.verdicts.Outcome.{Outcome}
 use Rattle.dt_pass.specs.Running.{AreJudgeable, IsRunOf}
-use Rattle.dt_pass.proofs.OwnRecords.{all_seam, any_record, before_more, before_same, own_from, own_split, stamp_rises}
+use Rattle.dt_runs.proofs.OwnRecords.{all_seam, any_record, before_more, before_same, own_from, own_split, stamp_rises}
 
 -- a hart's records before a place of the file were judged
 abbrev pub RunsUntil : History → (wide : Bool) (hart : ℕ) → List Record → ℕ → RunView → Type 0

@@ -3,4 +3,3 @@ pub mod AllHarts
 mod Failing
 mod HartRuns
 mod OneCheck
-mod OwnRecords

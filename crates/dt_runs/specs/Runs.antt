@@ -79,6 +79,14 @@ pub record RunsBehind (earlier : List Record) (v : RunView) (image : List ℕ) (
   pub ends : EndsWith v.hart image writes wide (earlier ++ records) moments (length allowed) v.failure
   pub notes : v.notes ≡ notes_from (length earlier) records (drop (length earlier) allowed)
 
+-- All of these first records of a hart are allowed, and what is kept of the hart stands for them.
+pub record StandsBehind (h : HartView) (image : List ℕ) (writes : List Write) (wide : Bool) (records : List Record) : Type 0 where
+  pub allowed : List Passed
+  pub moments : ℕ → ℕ
+  pub are_allowed : AreAllowed image writes wide h.arch.hart records moments allowed
+  pub count : length allowed ≡ length records
+  pub stands : HartStands h (setting_after image writes wide h.arch.hart records moments)
+
 -- a run over these first records of its hart
 abbrev pub Runs : RunView → (image : List ℕ) → (writes : List Write) → (wide : Bool) → List Record → Type 0
 Runs v image writes wide records = RunsBehind [] v image writes wide records

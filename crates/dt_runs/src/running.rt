@@ -1,10 +1,11 @@
-ghost use Rattle.std.specs.Prelude.{◌≡◌, ℕ, ◌+◌, ◌<◌, ◌≤◌, Option, None, is_some, List, [], OnOk, OnErr, IfNone, IfSome};
+ghost use Rattle.std.specs.Prelude.{◌≡◌, ℕ, ◌+◌, ◌<◌, ◌≤◌, Bool, Option, None, is_some, List, [], OnOk, OnErr, IfNone, IfSome};
 ghost use Rattle.dt_record.specs.declared.limits.TheConstants.{RECORD_LIMIT};
+ghost use Rattle.dt_record.specs.declared.records.Record.{Record as RecordOf};
 ghost use Rattle.dt_record.specs.declared.writes.Write.{Write};
 ghost use Rattle.dt_record.specs.Lawful.{IsLawful};
 ghost use Rattle.dt_record.specs.Lent.{record_of};
 ghost use Rattle.dt_runs.specs.RunView.{outcome_in};
-ghost use Rattle.dt_runs.specs.Runs.{Runs, RunsOn};
+ghost use Rattle.dt_runs.specs.Runs.{Runs, RunsBehind, RunsOn, StandsBehind};
 
 use crate::steps::step;
 use dt_judge::{Hart, earlier_moments_decide};
@@ -41,6 +42,21 @@ impl HartRun {
     {
         HartRun {
             hart: Hart::new(alloc, number, wide),
+            failure: None,
+            notes: Vec::new(alloc),
+        }
+    }
+
+    /// The run of a hart whose records so far were judged elsewhere, and are allowed. Of those nothing
+    /// is noted.
+    pub fn behind(alloc: Global, hart: Hart) -> HartRun
+        ensures opens { (earlier : List RecordOf) (image : List ℕ) (writes : List Write) (wide : Bool)
+            → StandsBehind hart image writes wide earlier → RunsBehind earlier result image writes wide [] }
+        ensures same { result.hart ≡ hart }
+        ensures nothing_yet { (result.failure ≡ None) × (result.notes ≡ []) }
+    {
+        HartRun {
+            hart,
             failure: None,
             notes: Vec::new(alloc),
         }

@@ -1,4 +1,5 @@
 use crate::{HartRun, file_records_are_own, runs_come_to_an_end};
+use dt_judge::Hart;
 use dt_record::{
     Body, Image, Key, Letters, Origin, RECORD_LIMIT, Reason, Record, Retire, Sources, Write, lawful,
 };
@@ -125,7 +126,7 @@ fn a_run_stops_at_the_first_record_that_is_not_allowed(rt: HostRuntime) -> Resul
 #[test]
 fn memory_grows_between_the_records(rt: HostRuntime) -> Result<(), Fail> {
     let mut m = memory(rt.alloc(), &LOADS)?;
-    let mut run = HartRun::new(rt.alloc(), 1, false);
+    let mut run = HartRun::behind(rt.alloc(), Hart::new(rt.alloc(), 1, false));
     judge(&rt, &mut run, &m, 1, commit(0, LOADS[0], PC))?;
     judge(&rt, &mut run, &m, 9, load(4, 9, 0))?;
     let key = Key {

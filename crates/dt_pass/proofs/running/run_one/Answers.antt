@@ -4,7 +4,7 @@ use Rattle.std.proofs.lemmas.List.{drop_all}
 use Rattle.dt_record.specs.Keys.{records_of}
 use Rattle.dt_record.specs.Writes.{writes_of}
 use Rattle.dt_pass.proofs.HartRuns.{HasPassed, has_one, is_ready, judged_next, not_failed, passed_by, run_of_all}
-use Rattle.dt_pass.proofs.OwnRecords.{any_record}
+use Rattle.dt_runs.proofs.OwnRecords.{any_record}
 use Rattle.dt_pass.proofs.running.run_one.Goals.{then-event-number+in_ok-judge+else-has_failed, else-event-number}
 use Rattle.dt_pass.proofs.running.run_one.Goals as goal
 
