@@ -3,7 +3,6 @@ use Rattle.std.specs.List.{list_all}
 use Rattle.std.specs.List.Sorted.{ties}
 use Rattle.std.proofs.lemmas.Bool.{and_parts, and_from, cases_Bool, cond-true, cond-false, not-true, not_from_false, both_ways}
 use Rattle.dt_record.proofs.KeyChains.{key_not_below-chain}
-use Rattle.dt_record.specs.declared.keys.Key.{Key}
 use Rattle.dt_record.specs.Keys.{key_below}
 use Rattle.dt_record.proofs.KeyLaws.{key_below-back}
 use Rattle.dt_writes.specs.KeyOrder.{under, keys_rise}

@@ -1,4 +1,4 @@
-use Rattle.std.proofs.Common.{ℕ, ◌==◌, take, arith, nat_lt}
+use Rattle.std.proofs.Common.{◌==◌, take, arith, nat_lt}
 use Rattle.std.proofs.lemmas.List.{length-take-le}
 use Rattle.dt_lists.proofs.Lists.{filter-within}
 use Rattle.dt_record.specs.declared.records.Record.{Record}
