@@ -1,0 +1,3 @@
+mod ByHart
+mod Cutting
+mod TraceOrder
