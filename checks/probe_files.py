@@ -13,7 +13,7 @@ PROGRAM = os.path.join(TOP, "difftest")
 sys.path.insert(0, os.path.join(TOP, "probes", "python"))
 
 from difftest_probes import (  # noqa: E402
-    Atomic, Beat, Commit, Csrs, Drain, Header, Load, Refill, Regs, Store, Trap)
+    Atomic, Beat, Commit, Csrs, Drain, Header, Load, Op, PermissionEvent, PermissionFile, Refill, Regs, Store, Trap)
 from difftest_probes.records import RAM_START as RAM  # noqa: E402
 from difftest_probes.spelling import spell, spell_end  # noqa: E402
 
@@ -67,17 +67,42 @@ def words(*values):
     return b"".join(struct.pack("<I", value) for value in values)
 
 
-def answer_to(folder, arguments, image, probes):
-    """Runs the program, where IMAGE and PROBES stand for files with these bytes, and gives its status
-    and what it prints. Where the bytes are None there is no such file."""
+def grant_read(hart, stamp, line):
+    return PermissionEvent(Op.GRANT_READ, hart, stamp, line)
+
+
+def grant_write(hart, stamp, line):
+    return PermissionEvent(Op.GRANT_WRITE, hart, stamp, line)
+
+
+def revoke(hart, stamp, line):
+    return PermissionEvent(Op.REVOKE, hart, stamp, line)
+
+
+def permission_file(harts, events):
+    return PermissionFile(harts, tuple(events)).spell()
+
+
+def put_files(folder, contents):
+    """The path of each file by its name, with these bytes. Where the bytes are None there is no such file."""
     paths = {}
-    for name, content in (("IMAGE", image), ("PROBES", probes)):
+    for name, content in contents.items():
         paths[name] = os.path.join(folder, name)
         if os.path.exists(paths[name]):
             os.remove(paths[name])
         if content is not None:
             with open(paths[name], "wb") as out:
                 out.write(content)
+    return paths
+
+
+def answer_over(arguments, paths):
+    """Runs the program, where a word of `paths` stands for that path, and gives its status and what it prints."""
     done = subprocess.run([PROGRAM] + [paths.get(word, word) for word in arguments],
                           stdout=subprocess.PIPE, check=False)
     return done.returncode, done.stdout
+
+
+def answer_to(folder, arguments, image, probes):
+    """The program's answer, where IMAGE and PROBES stand for files with these bytes."""
+    return answer_over(arguments, put_files(folder, {"IMAGE": image, "PROBES": probes}))

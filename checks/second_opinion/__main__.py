@@ -1,4 +1,5 @@
-"""`python3 -m second_opinion pass [--sources] IMAGE PROBES`, from the folder `checks`."""
+"""`python3 -m second_opinion pass [--sources] IMAGE PROBES`, or `.. coherence [--workers N] PERMS PROBES`,
+from the folder `checks`."""
 
 import sys
 

@@ -11,6 +11,17 @@ The commands are `python3 -m difftest_probes`. The package needs the standard li
 
 from .elf import ElfError, image_of_elf
 from .lawful import Problem, problems
+from .permissions import (
+    MalformedPermissions,
+    Op,
+    PermissionEvent,
+    PermissionFile,
+    PermissionReader,
+    PermissionWriter,
+    UnlawfulEvent,
+    read_permissions,
+    write_permissions,
+)
 from .program import check
 from .reader import BeyondLimit, Malformed, ProbeFile, Reader, iter_records, read
 from .records import (
@@ -48,8 +59,14 @@ __all__ = [
     "LimitReached",
     "Load",
     "Malformed",
+    "MalformedPermissions",
     "Note",
+    "Op",
     "OwnStore",
+    "PermissionEvent",
+    "PermissionFile",
+    "PermissionReader",
+    "PermissionWriter",
     "ProbeError",
     "ProbeFile",
     "Problem",
@@ -62,6 +79,7 @@ __all__ = [
     "Store",
     "Trap",
     "Unlawful",
+    "UnlawfulEvent",
     "Writer",
     "check",
     "image_of_elf",
@@ -71,5 +89,7 @@ __all__ = [
     "parse_report",
     "problems",
     "read",
+    "read_permissions",
     "write_file",
+    "write_permissions",
 ]

@@ -33,7 +33,7 @@ class LimitReached(ProbeError):
     """A file holds no record, or no write, more. The record was not written."""
 
     def __init__(self, what: str, most: int) -> None:
-        super().__init__(f"a probe file has at most {most} {what}")
+        super().__init__(f"a file has at most {most} {what}")
         self.what = what
 
 
