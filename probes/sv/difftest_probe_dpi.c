@@ -1,7 +1,15 @@
-/* The functions that difftest_probe.svh imports, over the writer of difftest_probe.h (in ../c). It is
- * C99 and C++11, since some simulators compile it as the one and some as the other. */
+/* The functions that difftest_probe.svh imports, over the writers of difftest_probe.h and
+ * difftest_permissions.h (in ../c). It is C99 and C++11, since some simulators compile it as the one and
+ * some as the other. */
+#include "difftest_permissions.h"
 #include "difftest_probe.h"
 #include "svdpi.h"
+
+/* Ends the files of both kinds that are not closed. */
+static void dtp_sv_end_files(void) {
+    dtp_settle_all();
+    dtp_end_permissions();
+}
 
 /* Verilator's make files say this to what they compile, which is C++. It ends $fatal, $stop and a failing
  * assertion by abort, which is no exit: there its own callback settles the files. */
@@ -9,7 +17,7 @@
 #include "verilated.h"
 
 static void dtp_sv_settle(void *) {
-    dtp_settle_all();
+    dtp_sv_end_files();
 }
 
 static void dtp_sv_settle_at_abort() {
@@ -49,7 +57,7 @@ int dtp_sv_close(void *writer) {
 }
 
 void dtp_sv_settle_all(void) {
-    dtp_settle_all();
+    dtp_sv_end_files();
 }
 
 const char *dtp_sv_problem(void *writer) {
@@ -128,6 +136,32 @@ int dtp_sv_retire(void *writer, unsigned int hart, dtp_sv_number stamp, dtp_sv_n
                   dtp_sv_number stored) {
     const dtp_retired retired = {hart, stamp, pc, bits, value, at, paddr, wrote, stored};
     return dtp_retire((dtp_writer *)writer, &retired);
+}
+
+void *dtp_sv_open_permissions(const char *path, unsigned int harts) {
+    dtp_sv_settle_at_abort();
+    return dtp_open_permissions(path, harts);
+}
+
+int dtp_sv_close_permissions(void *permissions) {
+    return dtp_close_permissions((dtp_permissions *)permissions);
+}
+
+const char *dtp_sv_permissions_problem(void *permissions) {
+    return dtp_permissions_problem((dtp_permissions *)permissions);
+}
+
+dtp_sv_number dtp_sv_permissions_count(void *permissions) {
+    return dtp_permissions_count((dtp_permissions *)permissions);
+}
+
+int dtp_sv_grant(void *permissions, unsigned int hart, dtp_sv_number stamp, dtp_sv_number line,
+                 unsigned int right) {
+    return dtp_grant((dtp_permissions *)permissions, hart, stamp, line, right);
+}
+
+int dtp_sv_revoke(void *permissions, unsigned int hart, dtp_sv_number stamp, dtp_sv_number line) {
+    return dtp_revoke((dtp_permissions *)permissions, hart, stamp, line);
 }
 
 #ifdef __cplusplus

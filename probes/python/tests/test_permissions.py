@@ -109,7 +109,8 @@ def random_events(random: Random, count: int, harts: int) -> Tuple[PermissionEve
     stamp, events = random.choice((0, 7, 1 << 63)), []
     for _ in range(count):
         stamp = min(WORD, stamp + random.choice((0, 0, 1, 300, 1 << 61)))
-        line = random.choice((RAM_START, RAM_END - LINE_BYTES, RAM_START + LINE_BYTES * random.getrandbits(20)))
+        anywhere = random.randrange(RAM_START, RAM_END, LINE_BYTES)
+        line = random.choice((RAM_START, RAM_END - LINE_BYTES, anywhere))
         events.append(PermissionEvent(random.choice(list(Op)), random.randrange(harts), stamp, line))
     return tuple(events)
 
