@@ -124,8 +124,6 @@ static inline dtp_permissions **dtp_permission_writers(void) {
  * (before abort, in a simulator's hook for fatal errors), call it, beside dtp_settle_all. */
 static inline void dtp_end_permissions(void) {
     for (dtp_permissions *writer = *dtp_permission_writers(); writer != NULL; writer = writer->next) {
-        if (writer->state != DTP_OK)
-            continue;
         dtp_finish_permissions(writer);
         if (writer->state == DTP_OK)
             dtp_stop_permissions(writer, DTP_CLOSED,

@@ -153,7 +153,7 @@ class Ends(unittest.TestCase):
         self.assertEqual(read_permissions(self.path), PermissionFile(2, tuple(EVENTS)))
 
     def test_exit(self) -> None:
-        """At an exit without a close the file has all its events and its End; after an abort it has no End."""
+        """At an exit without a close the file has all events and its End; after an abort it has no End."""
         lines = [f"open 2 {self.path}", *(line_of(event) for event in EVENTS)]
         for last, status in (("exit 0", 0), ("exit 3", 3), ("end\nabort", -signal.SIGABRT)):
             answers_to([*lines, last], status)
