@@ -68,11 +68,8 @@ fn a_file_is_read_in_any_pieces(rt: HostRuntime) -> Result<(), Fail> {
         assert_eq!(rt; perms.harts(), 2);
         assert_eq!(rt; perms.events().len(), 4);
         for (at, wanted) in events().iter().enumerate() {
-            assert_eq!(rt;
-                perms.events()[at],
-                *wanted,
-                "pieces of {piece}, event {at}"
-            );
+            let event = perms.events().get(at).copied();
+            assert_eq!(rt; event, Some(*wanted), "pieces of {piece}, event {at}");
         }
     }
     Ok(())
@@ -83,6 +80,7 @@ fn the_last_event_of_a_hart_decides(rt: HostRuntime) -> Result<(), Fail> {
     let Ok(perms) = read(rt.alloc(), file(rt.alloc())?) else {
         panic!(rt; "the file");
     };
+    assert_eq!(rt; perms.events().len(), 4);
     let writer = [
         Held::Nothing,
         Held::Nothing,
@@ -176,7 +174,9 @@ fn a_broken_field_is_answered_with_its_place(rt: HostRuntime) -> Result<(), Fail
     ];
     for (at, byte, offset) in broken {
         let mut bytes = file(rt.alloc())?;
-        bytes[at] = byte;
+        if let Some(place) = bytes.get_mut(at) {
+            *place = byte;
+        }
         let refusal = read(rt.alloc(), bytes).err();
         assert_eq!(rt;
             refusal,
